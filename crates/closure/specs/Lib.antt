@@ -1,0 +1,5 @@
+pub mod Limits
+pub mod Refusals
+pub mod Cells
+pub mod Passes
+pub mod Insertion

@@ -1,0 +1,2 @@
+mod PulsesLaws
+mod PulsesExact

@@ -1,0 +1,110 @@
+// A network of three cab stands, from nothing to its finished closure, and what it refuses.
+use closure::PlaceDisplay;
+use kinds::fault::KindNumber;
+use kinds::pulses::Pulses;
+use kinds::pulses::entry::PulsesDisplay;
+use kinds::pulses::algebra::PulsesSemiring;
+use network::Network;
+use network::NetworkFault;
+use network::NetworkFaultDisplay;
+use std::fmt;
+use std::io;
+
+#[derive(Clone, Copy)]
+enum Call {
+    Open(usize),
+    Insert(usize, usize, Pulses),
+    Edge(usize, usize),
+    Closure(usize, usize),
+}
+
+impl fmt::Display for Call as CallDisplay {
+    fn fmt<W: fmt::Write>(&self, f: &mut fmt::Formatter<W>) -> fmt::Result {
+        match self {
+            Call::Open(n) => write!(f, "open {n} nodes"),
+            Call::Insert(i, j, edge) => write!(f, "insert {i} to {j}, {edge}"),
+            Call::Edge(i, j) => write!(f, "edge {i} to {j}"),
+            Call::Closure(i, j) => write!(f, "closure {i} to {j}"),
+        }
+    }
+}
+
+#[derive(Drop)]
+enum Answer {
+    Accepted,
+    Entry(Pulses),
+    Refused(NetworkFault<KindNumber>),
+}
+
+impl fmt::Display for Answer as AnswerDisplay {
+    fn fmt<W: fmt::Write>(&self, f: &mut fmt::Formatter<W>) -> fmt::Result {
+        match self {
+            Answer::Accepted => write!(f, "accepted"),
+            Answer::Entry(entry) => write!(f, "{entry}"),
+            Answer::Refused(fault) => write!(f, "{fault}"),
+        }
+    }
+}
+
+fn accepted(result: Result<(), NetworkFault<KindNumber>>) -> Answer {
+    match result {
+        Ok(()) => Answer::Accepted,
+        Err(fault) => Answer::Refused(fault),
+    }
+}
+
+fn read(result: Result<Pulses, NetworkFault<KindNumber>>) -> Answer {
+    match result {
+        Ok(entry) => Answer::Entry(entry),
+        Err(fault) => Answer::Refused(fault),
+    }
+}
+
+fn perform(network: &mut Network<'_, Pulses>, call: Call) -> Answer {
+    match call {
+        Call::Open(n) => accepted(network.open(n)),
+        Call::Insert(i, j, edge) => accepted(network.insert(i, j, edge)),
+        Call::Edge(i, j) => read(network.edge(i, j)),
+        Call::Closure(i, j) => read(network.closure(i, j)),
+    }
+}
+
+// The closure, a line for each node.
+fn print_closure(rt: &impl Print, network: &Network<'_, Pulses>) -> io::Result<()> {
+    for i in 0..network.node_count() {
+        print!(rt, "    {i}:")?;
+        for j in 0..network.node_count() {
+            let answer = read(network.closure(i, j));
+            print!(rt, " {answer}")?;
+        }
+        println!(rt)?;
+    }
+    Ok(())
+}
+
+fn show(rt: &impl Print, network: &mut Network<'_, Pulses>, calls: &[Call]) -> io::Result<()> {
+    for call in calls {
+        let answer = perform(network, *call);
+        println!(rt, "{call}: {answer}")?;
+        print_closure(rt, network)?;
+    }
+    Ok(())
+}
+
+fn main(rt: LibcRuntime) -> io::Result<()> {
+    let pulses = [Pulses::new(400).unwrap(), Pulses::new(300).unwrap(), Pulses::new(900).unwrap(), Pulses::new(1_000_001).unwrap()];
+    let mut cells = [0; 24];
+    println!(rt, "24 cells: a network of no nodes")?;
+    let mut network = Network::<Pulses>::wrap(&mut cells);
+    let task = [Call::Open(3), Call::Insert(0, 1, pulses[0]), Call::Insert(1, 2, pulses[1]), Call::Insert(0, 2, pulses[2]), Call::Closure(0, 2), Call::Edge(0, 2)];
+    show(&rt, &mut network, &task)?;
+    let refusals = [Call::Insert(0, 1, pulses[3]), Call::Insert(0, 3, pulses[0]), Call::Open(0), Call::Open(65), Call::Closure(3, 0)];
+    show(&rt, &mut network, &refusals)?;
+    drop(network);
+    println!(rt, "23 cells, one too few for 3 nodes")?;
+    let mut short = [0; 23];
+    let mut network = Network::<Pulses>::wrap(&mut short);
+    show(&rt, &mut network, &[Call::Open(3), Call::Closure(0, 0)])?;
+    drop(network);
+    Ok(())
+}
