@@ -27,14 +27,14 @@ module _ {A : Type 0} (f : ℕ → A) (a : ℕ) (xs : List A) where
       let front = take a xs ++ map f (counting 0 m) in
       let rest : drop (a + m) xs ≡ getD xs (a + m) y ∷ drop (a + m + 1) xs = drop-more xs (a + m) y h in
       let was : take a xs ++ (map f (counting 0 m) ++ drop (a + m) xs) ≡ front ++ (getD xs (a + m) y ∷ drop (a + m + 1) xs) =
-          ap (λ z. take a xs ++ (map f (counting 0 m) ++ z)) rest ∙ sym (append-assoc (take a xs) (map f (counting 0 m)) (getD xs (a + m) y ∷ drop (a + m + 1) xs)) in
+      ap (λ z. take a xs ++ (map f (counting 0 m) ++ z)) rest ∙ sym (append-assoc (take a xs) (map f (counting 0 m)) (getD xs (a + m) y ∷ drop (a + m + 1) xs)) in
       let put = set-at front (getD xs (a + m) y) (drop (a + m + 1) xs) y (a + m) (front-length m (omega arith)) in
       let grown : map f (counting 0 (m + 1)) ≡ map f (counting 0 m) ++ (y ∷ []) = map-counting-more f 0 m m (omega arith) ∙ ap (λ z. map f (counting 0 m) ++ (z ∷ [])) (sym is) in
       let last : take a xs ++ (map f (counting 0 (m + 1)) ++ drop (a + (m + 1)) xs) ≡ front ++ (y ∷ drop (a + m + 1) xs) =
-          ap (λ z. take a xs ++ (z ++ drop (a + (m + 1)) xs)) grown
-          ∙ ap (λ z. take a xs ++ z) (append-assoc (map f (counting 0 m)) (y ∷ []) (drop (a + (m + 1)) xs))
-          ∙ sym (append-assoc (take a xs) (map f (counting 0 m)) (y ∷ drop (a + (m + 1)) xs))
-          ∙ ap (λ n. front ++ (y ∷ drop n xs)) (sym (add-assoc a m 1)) in
+      ap (λ z. take a xs ++ (z ++ drop (a + (m + 1)) xs)) grown
+      ∙ ap (λ z. take a xs ++ z) (append-assoc (map f (counting 0 m)) (y ∷ []) (drop (a + (m + 1)) xs))
+      ∙ sym (append-assoc (take a xs) (map f (counting 0 m)) (y ∷ drop (a + (m + 1)) xs))
+      ∙ ap (λ n. front ++ (y ∷ drop n xs)) (sym (add-assoc a m 1)) in
       ap (λ l. set l (a + m) y) was ∙ put ∙ sym last
 
   -- one turn of a loop that writes
@@ -67,9 +67,10 @@ module _ {A : Type 0} (f : ℕ → A) (a : ℕ) (xs : List A) where
 
   pub over-kept : (m : ℕ) → a + m ≤ length xs → Kept a m xs (over f a m xs)
   unfolding over
-  over-kept m h =
-      ( take-at (take a xs) (map f (counting 0 m) ++ drop (a + m) xs) a (length-take-le a xs (omega arith))
-      , ap (drop (a + m)) (sym (append-assoc (take a xs) (map f (counting 0 m)) (drop (a + m) xs))) ∙ drop-at (take a xs ++ map f (counting 0 m)) (drop (a + m) xs) (a + m) (front-length m (omega arith)) )
+  over-kept m h = (
+    take-at (take a xs) (map f (counting 0 m) ++ drop (a + m) xs) a (length-take-le a xs (omega arith)),
+    ap (drop (a + m)) (sym (append-assoc (take a xs) (map f (counting 0 m)) (drop (a + m) xs))) ∙ drop-at (take a xs ++ map f (counting 0 m)) (drop (a + m) xs) (a + m) (front-length m (omega arith)),
+  )
 
   -- to write what stands there already changes nothing
   pub over-itself : (m : ℕ) (d : A) → a + m ≤ length xs → ((p : ℕ) → p < m → f p ≡ getD xs (a + p) d) → over f a m xs ≡ xs
@@ -99,12 +100,18 @@ module _ {A : Type 0} where
   pub kept-within : (a m b n : ℕ) (xs ys : List A) → a ≤ b → b + n ≤ a + m → Kept b n xs ys → Kept a m xs ys
   kept-within a m b n xs ys h l k =
       let e : b + n + (a + m - (b + n)) ≡ a + m = omega arith in
-      let cut : (zs : List A) → drop (a + m) zs ≡ drop (a + m - (b + n)) (drop (b + n) zs) = λ zs. ap (λ p. drop p zs) (sym e) ∙ sym (drop-drop (a + m - (b + n)) (b + n) zs) in
-      ( sym (take-take a b ys h) ∙ ap (take a) (k .0) ∙ take-take a b xs h
-      , cut ys ∙ ap (drop (a + m - (b + n))) (k .1) ∙ sym (cut xs) )
+      let cut : (zs : List A) → drop (a + m) zs ≡ drop (a + m - (b + n)) (drop (b + n) zs) = λ zs. ap (λ p. drop p zs) (sym e) ∙ sym (drop-drop (a + m - (b + n)) (b + n) zs) in (
+        sym (take-take a b ys h) ∙ ap (take a) (k .0) ∙ take-take a b xs h,
+        cut ys ∙ ap (drop (a + m - (b + n))) (k .1) ∙ sym (cut xs),
+      )
 
   pub kept-then : (a m : ℕ) (xs ys zs : List A) → Kept a m xs ys → Kept a m ys zs → Kept a m xs zs
-  kept-then a m xs ys zs k l = (l .0 ∙ k .0 , l .1 ∙ k .1)
+  kept-then a m xs ys zs k l = (l .0 ∙ k .0, l .1 ∙ k .1)
+
+  -- what lies behind the part that is written
+  pub drop-over : (f : ℕ → A) (a m b : ℕ) (xs : List A) → a + m ≤ b → a + m ≤ length xs → drop b (over f a m xs) ≡ drop b xs
+  drop-over f a m b xs h l =
+      ap (λ q. drop q (over f a m xs)) (sym (zero-add b)) ∙ (kept-within 0 b a m xs (over f a m xs) (omega arith) (omega arith) (over-kept f a xs m l)) .1 ∙ ap (λ q. drop q xs) (zero-add b)
 
   -- a place before the part that changed
   pub getD-kept : (b l : ℕ) (xs ys : List A) (p : ℕ) (d : A) → Kept b l xs ys → p < b → getD ys p d ≡ getD xs p d
@@ -114,18 +121,18 @@ module _ {A : Type 0} where
   pub kept-apart : (f : ℕ → A) (a m b l : ℕ) (xs ys : List A) → a + m ≤ b → b + l ≤ length xs → length ys ≡ length xs → Kept b l xs ys → Kept b l (over f a m xs) (over f a m ys)
   kept-apart f a m b l xs ys h r e k =
       let same : (p : ℕ) (d : A) → p < b → getD (over f a m ys) p d ≡ getD (over f a m xs) p d = λ p d q.
-          ⊎-elim
-            (λ (u : p < a). getD-over-below f a ys m p d u (omega arith) ∙ getD-kept b l xs ys p d k q ∙ sym (getD-over-below f a xs m p d u (omega arith)))
-            (λ (u : a ≤ p). ⊎-elim
-              (λ (v : p < a + m). getD-over-in f a ys m (p - a) p d (omega arith) (omega arith) (omega arith) ∙ sym (getD-over-in f a xs m (p - a) p d (omega arith) (omega arith) (omega arith)))
-              (λ (v : a + m ≤ p). getD-over-past f a ys m p d v (omega arith) ∙ getD-kept b l xs ys p d k q ∙ sym (getD-over-past f a xs m p d v (omega arith)))
-              (cases-lt p (a + m)))
-            (cases-lt p a) in
+      ⊎-elim
+      (λ (u : p < a). getD-over-below f a ys m p d u (omega arith) ∙ getD-kept b l xs ys p d k q ∙ sym (getD-over-below f a xs m p d u (omega arith)))
+      (λ (u : a ≤ p). ⊎-elim
+      (λ (v : p < a + m). getD-over-in f a ys m (p - a) p d (omega arith) (omega arith) (omega arith) ∙ sym (getD-over-in f a xs m (p - a) p d (omega arith) (omega arith) (omega arith)))
+      (λ (v : a + m ≤ p). getD-over-past f a ys m p d v (omega arith) ∙ getD-kept b l xs ys p d k q ∙ sym (getD-over-past f a xs m p d v (omega arith)))
+      (cases-lt p (a + m)))
+      (cases-lt p a) in
       let ny : length (take b (over f a m ys)) ≡ b = length-take-le b (over f a m ys) (omega (arith, length-over f a ys m (omega arith))) in
-      let nx : length (take b (over f a m xs)) ≡ b = length-take-le b (over f a m xs) (omega (arith, length-over f a xs m (omega arith))) in
-      let out : (zs : List A) → length zs ≡ length xs → drop (b + l) (over f a m zs) ≡ drop (b + l) zs = λ zs z. ap (λ q. drop q (over f a m zs)) (sym (zero-add (b + l))) ∙ (kept-within 0 (b + l) a m zs (over f a m zs) (omega arith) (omega arith) (over-kept f a zs m (omega arith))) .1 ∙ ap (λ q. drop q zs) (zero-add (b + l)) in
-      ( same-lists (take b (over f a m ys)) (take b (over f a m xs)) (ny ∙ sym nx) (λ p d q. let u : p < b = omega arith in getD-take b (over f a m ys) p d u ∙ same p d u ∙ sym (getD-take b (over f a m xs) p d u))
-      , out ys e ∙ k .1 ∙ sym (out xs refl) )
+      let nx : length (take b (over f a m xs)) ≡ b = length-take-le b (over f a m xs) (omega (arith, length-over f a xs m (omega arith))) in (
+        same-lists (take b (over f a m ys)) (take b (over f a m xs)) (ny ∙ sym nx) (λ p d q. let u : p < b = omega arith in getD-take b (over f a m ys) p d u ∙ same p d u ∙ sym (getD-take b (over f a m xs) p d u)),
+        drop-over f a m (b + l) ys (omega arith) (omega arith) ∙ k .1 ∙ sym (drop-over f a m (b + l) xs (omega arith) (omega arith)),
+      )
 
   -- what is written wherever the lists differ makes them one
   pub over-of-kept : (f : ℕ → A) (a m : ℕ) (xs ys : List A) → Kept a m xs ys → over f a m ys ≡ over f a m xs

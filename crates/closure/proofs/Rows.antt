@@ -45,7 +45,7 @@ module _ {s : Semiring} {Entry Cell Fault : Type 0} (k : Entries s Entry Cell Fa
   pub none-row-kept : (t : Entry) (row : ℕ → Entry) (a n : ℕ) (xs : List Cell) → k .same t (k .none) ≡ true → a + n ≤ length xs → over (λ y. raised k t (row y) (getD xs (a + y) (blank k))) a n xs ≡ xs
   none-row-kept t row a n xs skipped room =
       over-itself (λ y. raised k t (row y) (getD xs (a + y) (blank k))) a xs n (blank k) room
-        (λ y h. ap (λ b. cond b (getD xs (a + y) (blank k)) (k .write (k .sum (k .read (getD xs (a + y) (blank k))) (times k t (row y))))) skipped)
+      (λ y h. ap (λ b. cond b (getD xs (a + y) (blank k)) (k .write (k .sum (k .read (getD xs (a + y) (blank k))) (times k t (row y))))) skipped)
 
   -- the entry of a raised cell, whether it was left alone or not
   pub read-raised : Laws s → Exact k → (t e : Entry) (c : Cell) → k .read (raised k t e c) ≡ k .sum (k .read c) (times k t e)
@@ -78,20 +78,20 @@ module _ {s : Semiring} {Entry Cell Fault : Type 0} (k : Entries s Entry Cell Fa
         let fits = row-fits x n h in
         let new = passed-cell k column m row n a xs in
         let each : (y : ℕ) → y < n → raised k t (row y) (getD ys (a + x * n + y) (blank k)) ≡ new (x * n + y) = λ y l.
-            let place : a + x * n + y ≡ a + (x * n + y) = omega arith in
-            let old : getD ys (a + x * n + y) (blank k) ≡ getD xs (a + x * n + y) (blank k) = ap (λ z. getD z (a + x * n + y) (blank k)) ys-is ∙ getD-over-past new a xs (x * n) (a + x * n + y) (blank k) (omega arith) (omega arith) in
-            let at-row : (x * n + y) / n ≡ x = div-mul-add x n y l in
-            let at-column : (x * n + y) % n ≡ y = mod-mul-add x n y l in
-            cc in
+        let place : a + x * n + y ≡ a + (x * n + y) = omega arith in
+        let old : getD ys (a + x * n + y) (blank k) ≡ getD xs (a + x * n + y) (blank k) = ap (λ z. getD z (a + x * n + y) (blank k)) ys-is ∙ getD-over-past new a xs (x * n) (a + x * n + y) (blank k) (omega arith) (omega arith) in
+        let at-row : (x * n + y) / n ≡ x = div-mul-add x n y l in
+        let at-column : (x * n + y) % n ≡ y = mod-mul-add x n y l in
+        cc in
         zs-is ∙ over-join new (λ y. raised k t (row y) (getD ys (a + x * n + y) (blank k))) a (a + x * n) (x * n) n xs ys ys-is refl (omega arith) each ∙ ap (λ p. over new a p xs) (sym (row-end x n))
 
   -- a pass's refusal depends on the n entries of its column and of its row alone
   pub pass-fault-same : (column column′ : ℕ → Entry) (m : Entry) (row row′ : ℕ → Entry) (n : ℕ) → ((x : ℕ) → x < n → column x ≡ column′ x) → ((y : ℕ) → y < n → row y ≡ row′ y) → pass-fault k column m row n ≡ pass-fault k column′ m row′ n
   pass-fault-same column column′ m row row′ n at-column at-row =
       first-same (line-fault k column m row n) (line-fault k column′ m row′ n) n (λ x h.
-          let t = times k (column′ x) m in
-          let inner : row-fault k t row n ≡ row-fault k t row′ n = first-same (λ y. failed (k .product t (row y))) (λ y. failed (k .product t (row′ y))) n (λ y l. ap (λ e. failed (k .product t e)) (at-row y l)) in
-          ap (λ e. either (failed (k .product e m)) (row-fault k (times k e m) row n)) (at-column x h) ∙ ap (either (failed (k .product (column′ x) m))) inner)
+      let t = times k (column′ x) m in
+      let inner : row-fault k t row n ≡ row-fault k t row′ n = first-same (λ y. failed (k .product t (row y))) (λ y. failed (k .product t (row′ y))) n (λ y l. ap (λ e. failed (k .product t e)) (at-row y l)) in
+      ap (λ e. either (failed (k .product e m)) (row-fault k (times k e m) row n)) (at-column x h) ∙ ap (either (failed (k .product (column′ x) m))) inner)
 
   -- what lies past the part that was written is as it was
   pub past-same : (f : ℕ → Cell) (a m b : ℕ) (xs ys : List Cell) → ys ≡ over f a m xs → a + m ≤ b → a ≤ length xs → _≡_ {A = ℕ → Entry} (λ j. at k ys (b + j)) (λ j. at k xs (b + j))

@@ -1,10 +1,10 @@
 -- What a refusal says, and what each fault of a table says.
-use mathlib.Core.Bool.{Bool, true, false}
+use mathlib.Core.List.{List, _++_}
 use Prim.Native.Nat.{ℕ}
+use lib.Chars.{codes}
+use Rattle.std.specs.Written.{decimal}
 use Rattle.std.specs.declared.option.Option.{Option}
 use Rattle.std.specs.declared.option.Option.the-variants.{Some, None}
-use Rattle.std.specs.declared.result.Result.{Result}
-use Rattle.std.specs.declared.result.Result.the-variants.{Ok, Err}
 use Rattle.closure.specs.declared.fault.Place.{Place}
 use Rattle.closure.specs.declared.fault.TableFault.{TableFault}
 use Rattle.closure.specs.declared.fault.TableFault.the-variants.{NodeCount, TooShort, NotANode, NotAnEdge, TooLarge, Cycle}
@@ -46,3 +46,11 @@ described NotANode = plain table 3
 described (NotAnEdge p) = no-edge table p
 described (TooLarge p w) = too-large p w
 described (Cycle p w) = cycle p w
+
+-- (row,column)
+abbrev pub place-text : Place → List ℕ
+place-text p = codes "(" ++ (decimal (p .row) ++ (codes "," ++ (decimal (p .column) ++ codes ")")))
+
+-- refused NUMBER at (row,column)
+abbrev pub refusal-text : {F : Type 0} → Refusal F → List ℕ
+refusal-text r = codes "refused " ++ (decimal (r .number) ++ (codes " at " ++ place-text (r .place)))

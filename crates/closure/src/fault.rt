@@ -1,5 +1,6 @@
 ghost use mathlib.Core.Path.{_≡_};
-ghost use Rattle.closure.specs.Refusals.{described};
+ghost use Rattle.std.specs.declared.option.Option.the-variants.{Some};
+ghost use Rattle.closure.specs.Refusals.{described, place-text, refusal-text};
 use std::fmt;
 
 // An entry's place in a table, or a pair of nodes.
@@ -10,6 +11,8 @@ pub struct Place {
 }
 
 pub impl fmt::Display for Place as PlaceDisplay {
+    ghost shown = { λ p. Some (place-text p) };
+
     fn fmt<W: fmt::Write>(&self, f: &mut fmt::Formatter<W>) -> fmt::Result {
         let row = self.row;
         let column = self.column;
@@ -48,13 +51,20 @@ impl<F> TableFault<F> {
         ensures { λ r. ⌜ r ≡ described (now (self .entry)) .place ⌝ }
     {
         match self {
-            TableFault::NodeCount | TableFault::TooShort | TableFault::NotANode => Place { row: 0, column: 0 },
-            TableFault::NotAnEdge(place) | TableFault::TooLarge(place, _) | TableFault::Cycle(place, _) => *place,
+            TableFault::NodeCount | TableFault::TooShort | TableFault::NotANode => Place {
+                row: 0,
+                column: 0,
+            },
+            TableFault::NotAnEdge(place)
+            | TableFault::TooLarge(place, _)
+            | TableFault::Cycle(place, _) => *place,
         }
     }
 }
 
 pub impl<F> fmt::Display for TableFault<F> as TableFaultDisplay {
+    ghost shown = { λ t. Some (refusal-text (described t)) };
+
     fn fmt<W: fmt::Write>(&self, f: &mut fmt::Formatter<W>) -> fmt::Result {
         let number = self.number();
         let place = self.place();

@@ -1,8 +1,8 @@
 mod fault;
 
 pub use fault::Place;
-pub use fault::PlaceDisplay;
 pub use fault::PlaceDebug;
+pub use fault::PlaceDisplay;
 pub use fault::PlacePartialEq;
 pub use fault::TableFault;
 pub use fault::TableFaultDebug;

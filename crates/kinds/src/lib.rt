@@ -1,16 +1,20 @@
-pub mod fault;
-pub mod pulses;
+mod fault;
+mod pulses;
+
+pub use fault::KindNumber;
+pub use fault::KindNumberDebug;
+pub use fault::KindNumberPartialEq;
+pub use pulses::Pulses;
+pub use pulses::PulsesDebug;
+pub use pulses::PulsesPartialEq;
+pub use pulses::algebra::PulsesDijkstra;
+pub use pulses::algebra::PulsesSelective;
+pub use pulses::algebra::PulsesSemiring;
+pub use pulses::entry::PulsesDisplay;
 
 #[cfg(test)]
 mod tests {
-    use crate::fault::KindNumber;
-    use crate::fault::KindNumberDebug;
-    use crate::fault::KindNumberPartialEq;
-    use crate::pulses::Pulses;
-    use crate::pulses::PulsesDebug;
-    use crate::pulses::PulsesPartialEq;
-    use crate::pulses::algebra::PulsesSemiring;
-    use crate::pulses::entry::PulsesDisplay;
+    use super::*;
     use semiring::Semiring;
     use std::test::*;
 

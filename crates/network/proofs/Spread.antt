@@ -60,10 +60,10 @@ module _ {s : Semiring} {Entry Cell Fault : Type 0} (k : Entries s Entry Cell Fa
       let was = passed-cell k (λ x. at k zs (n * n + n * n + x)) m (λ y. at k zs (n * n + n * n + n + y)) n (n * n) zs in
       let new = passed-cell k (λ x. closure-of k n xs x i) m (closure-of k n xs j) n (n * n) xs in
       let each : (p : ℕ) → p < n * n → was p ≡ new p = λ p h.
-          let old : getD zs (n * n + p) (blank k) ≡ getD xs (n * n + p) (blank k) = getD-kept (n * n + n * n) (n + n) xs zs (n * n + p) (blank k) zs-kept (omega arith) in
-          let a = column-at (p / n) (div-below p n n (omega arith) h) in
-          let b = row-at (p % n) (mod-below p n (omega arith)) in
-          cc in
+      let old : getD zs (n * n + p) (blank k) ≡ getD xs (n * n + p) (blank k) = getD-kept (n * n + n * n) (n + n) xs zs (n * n + p) (blank k) zs-kept (omega arith) in
+      let a = column-at (p / n) (div-below p n n (omega arith) h) in
+      let b = row-at (p % n) (mod-below p n (omega arith)) in
+      cc in
       us-is
       ∙ ap (over (λ _. blank k) (n * n + n * n) (n + n)) (ws-is ∙ over-same was new (n * n) (n * n) zs (omega (arith, zs-long)) each)
       ∙ over-of-kept (λ _. blank k) (n * n + n * n) (n + n) (over new (n * n) (n * n) xs) (over new (n * n) (n * n) zs) (kept-apart new (n * n) (n * n) (n * n + n * n) (n + n) xs zs (omega arith) (omega arith) zs-long zs-kept)

@@ -4,8 +4,8 @@ ghost use Rattle.std.specs.Vec.{made};
 ghost use Rattle.closure.specs.Cells.{outcome};
 ghost use Rattle.closure.specs.Limits.{max-nodes};
 ghost use Rattle.network.specs.Faults.{answer, needed as cells-needed, size-refusal, pair-refusal};
-use closure::MAX_NODES;
 use crate::fault::NetworkFault;
+use closure::MAX_NODES;
 
 // How many cells n nodes take: edges, closure and scratch.
 pub(crate) fn needed(n: usize) -> usize

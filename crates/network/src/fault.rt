@@ -1,4 +1,6 @@
 ghost use mathlib.Core.Path.{_≡_};
+ghost use Rattle.std.specs.declared.option.Option.the-variants.{Some};
+ghost use Rattle.closure.specs.Refusals.{refusal-text};
 ghost use Rattle.network.specs.Faults.{described};
 use closure::Place;
 use closure::PlaceDebug;
@@ -36,7 +38,10 @@ impl<F> NetworkFault<F> {
         ensures { λ r. ⌜ r ≡ described (now (self .entry)) .place ⌝ }
     {
         match self {
-            NetworkFault::NodeCount | NetworkFault::TooShort | NetworkFault::NotANode => Place { row: 0, column: 0 },
+            NetworkFault::NodeCount | NetworkFault::TooShort | NetworkFault::NotANode => Place {
+                row: 0,
+                column: 0,
+            },
             NetworkFault::NotAnEdge(place) => *place,
             NetworkFault::Table(fault) => fault.place(),
         }
@@ -44,6 +49,8 @@ impl<F> NetworkFault<F> {
 }
 
 pub impl<F> fmt::Display for NetworkFault<F> as NetworkFaultDisplay {
+    ghost shown = { λ t. Some (refusal-text (described t)) };
+
     fn fmt<W: fmt::Write>(&self, f: &mut fmt::Formatter<W>) -> fmt::Result {
         let number = self.number();
         let place = self.place();

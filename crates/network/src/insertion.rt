@@ -8,12 +8,12 @@ ghost use Rattle.closure.specs.Passes.{row-fault, raised, pass-fault, passed-ce
 ghost use Rattle.closure.specs.Refusals.{described};
 ghost use Rattle.network.specs.Faults.{needed};
 ghost use Rattle.network.specs.Layout.{closure-of, scratch-cleared, closure-passed, inserted-cells};
-use closure::Place;
-use closure::TableFault;
 use crate::cells::clear;
 use crate::cells::entry;
 use crate::cells::gather;
 use crate::cells::put;
+use closure::Place;
+use closure::TableFault;
 use semiring::Semiring;
 
 // Whether t times each of the n entries from b on is held.
@@ -33,7 +33,14 @@ fn try_row<S: Semiring>(cells: &[S::Cell], t: S::Entry, b: usize, n: usize) -> R
 }
 
 // Whether every product of a pass by column i and row j of the table from a on is held.
-fn try_pass<S: Semiring>(cells: &[S::Cell], a: usize, n: usize, i: usize, j: usize, m: S::Entry) -> Result<(), S::Fault>
+fn try_pass<S: Semiring>(
+    cells: &[S::Cell],
+    a: usize,
+    n: usize,
+    i: usize,
+    j: usize,
+    m: S::Entry,
+) -> Result<(), S::Fault>
     requires { ⌜ n ≤ max-nodes ⌝ ∗ ⌜ i < n ⌝ ∗ ⌜ j < n ⌝ ∗ ⌜ a + n * n ≤ length (now cells) ⌝ }
     ensures { λ r. ⌜ r ≡ outcome (pass-fault (S·Semiring .entries) (λ x. table-at (S·Semiring .entries) n a (now (cells .entry)) x i) m (table-at (S·Semiring .entries) n a (now (cells .entry)) j) n) tt ⌝ }
 {
@@ -71,7 +78,12 @@ fn pass<S: Semiring>(cells: &mut [S::Cell], a: usize, b: usize, n: usize, m: S::
 }
 
 // The edge after any number of laps by it, where `back` leads from its end to its start.
-fn factor<S: Semiring>(i: usize, j: usize, edge: S::Entry, back: S::Entry) -> Result<S::Entry, TableFault<S::Fault>>
+fn factor<S: Semiring>(
+    i: usize,
+    j: usize,
+    edge: S::Entry,
+    back: S::Entry,
+) -> Result<S::Entry, TableFault<S::Fault>>
     ensures { λ r. ⌜ faults described r ≡ factor-of (S·Semiring .entries) i j edge back ⌝ }
 {
     let place = Place { row: i, column: j };
@@ -103,7 +115,13 @@ fn spread<S: Semiring>(cells: &mut [S::Cell], n: usize, i: usize, j: usize, m: S
 }
 
 // Inserts an edge from i to j into a network's cells, or refuses and leaves them as they were.
-pub(crate) fn insert_edge<S: Semiring>(cells: &mut [S::Cell], n: usize, i: usize, j: usize, edge: S::Entry) -> Result<(), TableFault<S::Fault>>
+pub(crate) fn insert_edge<S: Semiring>(
+    cells: &mut [S::Cell],
+    n: usize,
+    i: usize,
+    j: usize,
+    edge: S::Entry,
+) -> Result<(), TableFault<S::Fault>>
     requires { ⌜ n ≤ max-nodes ⌝ ∗ ⌜ i < n ⌝ ∗ ⌜ j < n ⌝ ∗ ⌜ needed n ≤ length (now cells) ⌝ }
     ensures answer { λ r. ⌜ faults described r ≡ outcome (insertion-refusal (S·Semiring .entries) i j (closure-of (S·Semiring .entries) n (now (cells .entry))) n edge) tt ⌝ }
     ensures cells_after { λ r. ⌜ now (cells .exit) ≡ unless (insertion-refusal (S·Semiring .entries) i j (closure-of (S·Semiring .entries) n (now (cells .entry))) n edge) (inserted-cells (S·Semiring .entries) n i j edge (now (cells .entry))) (now (cells .entry)) ⌝ }

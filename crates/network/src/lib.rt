@@ -4,10 +4,10 @@ ghost use lib.ListN.{length};
 ghost use denote.Ref.{name};
 ghost use Rattle.std.specs.declared.option.Option.the-variants.{None};
 ghost use Rattle.closure.specs.Cells.{outcome, unless};
-ghost use Rattle.closure.specs.Insertion.{inserted};
 ghost use Rattle.network.specs.Calls.{after-insert, after-open, insert-refusal, open-refusal};
 ghost use Rattle.network.specs.Faults.{answer, pair-refusal};
 ghost use Rattle.network.specs.Layout.{closure-of, edge-of};
+ghost use Rattle.network.specs.Meaning.{Inserted, Opened};
 use cells::entry;
 use checks::check_pair;
 use checks::check_size;
@@ -62,6 +62,7 @@ impl<'a, S: Semiring> Network<'a, S> {
         ensures answered { λ r. ⌜ answer r ≡ outcome (open-refusal (S·Semiring .entries) n (now (now (self .entry) .cells))) tt ⌝ }
         ensures node_count_after { λ r. ⌜ now (self .exit) .n ≡ unless (open-refusal (S·Semiring .entries) n (now (now (self .entry) .cells))) n (now (self .entry) .n) ⌝ }
         ensures cells_after { λ r. ⌜ now (now (self .exit) .cells) ≡ after-open (S·Semiring .entries) n (now (now (self .entry) .cells)) ⌝ }
+        ensures accepted_opens { λ r. ⌜ (open-refusal (S·Semiring .entries) n (now (now (self .entry) .cells)) ≡ None → Opened (S·Semiring .entries) n (now (now (self .entry) .cells)) (now (now (self .exit) .cells))) ⌝ }
         ensures cells_lent { λ r. ⌜ name (now (self .exit) .cells) ≡ name (now (self .entry) .cells) ⌝ }
     {
         let len = self.cells.len();
@@ -90,9 +91,15 @@ impl<'a, S: Semiring> Network<'a, S> {
     }
 
     // Sums an edge from i to j onto the edges, and what it adds onto the closure.
-    pub fn insert(&mut self, i: usize, j: usize, edge: S::Entry) -> Result<(), NetworkFault<S::Fault>>
+    pub fn insert(
+        &mut self,
+        i: usize,
+        j: usize,
+        edge: S::Entry,
+    ) -> Result<(), NetworkFault<S::Fault>>
         ensures answered { λ r. ⌜ answer r ≡ outcome (insert-refusal (S·Semiring .entries) (now (self .entry) .n) i j edge (now (now (self .entry) .cells))) tt ⌝ }
         ensures cells_after { λ r. ⌜ now (now (self .exit) .cells) ≡ after-insert (S·Semiring .entries) (now (self .entry) .n) i j edge (now (now (self .entry) .cells)) ⌝ }
+        ensures accepted_inserts { λ r. ⌜ (insert-refusal (S·Semiring .entries) (now (self .entry) .n) i j edge (now (now (self .entry) .cells)) ≡ None → Inserted (S·Semiring .entries) (now (self .entry) .n) (now (now (self .entry) .cells)) (now (now (self .exit) .cells)) i j edge) ⌝ }
         ensures node_count_kept { λ r. ⌜ now (self .exit) .n ≡ now (self .entry) .n ⌝ }
         ensures cells_lent { λ r. ⌜ name (now (self .exit) .cells) ≡ name (now (self .entry) .cells) ⌝ }
     {

@@ -1,9 +1,8 @@
 // A network of three cab stands, from nothing to its finished closure, and what it refuses.
-use closure::PlaceDisplay;
-use kinds::fault::KindNumber;
-use kinds::pulses::Pulses;
-use kinds::pulses::entry::PulsesDisplay;
-use kinds::pulses::algebra::PulsesSemiring;
+use kinds::KindNumber;
+use kinds::Pulses;
+use kinds::PulsesDisplay;
+use kinds::PulsesSemiring;
 use network::Network;
 use network::NetworkFault;
 use network::NetworkFaultDisplay;
@@ -92,13 +91,31 @@ fn show(rt: &impl Print, network: &mut Network<'_, Pulses>, calls: &[Call]) -> i
 }
 
 fn main(rt: LibcRuntime) -> io::Result<()> {
-    let pulses = [Pulses::new(400).unwrap(), Pulses::new(300).unwrap(), Pulses::new(900).unwrap(), Pulses::new(1_000_001).unwrap()];
+    let pulses = [
+        Pulses::new(400).unwrap(),
+        Pulses::new(300).unwrap(),
+        Pulses::new(900).unwrap(),
+        Pulses::new(1_000_001).unwrap(),
+    ];
     let mut cells = [0; 24];
     println!(rt, "24 cells: a network of no nodes")?;
     let mut network = Network::<Pulses>::wrap(&mut cells);
-    let task = [Call::Open(3), Call::Insert(0, 1, pulses[0]), Call::Insert(1, 2, pulses[1]), Call::Insert(0, 2, pulses[2]), Call::Closure(0, 2), Call::Edge(0, 2)];
+    let task = [
+        Call::Open(3),
+        Call::Insert(0, 1, pulses[0]),
+        Call::Insert(1, 2, pulses[1]),
+        Call::Insert(0, 2, pulses[2]),
+        Call::Closure(0, 2),
+        Call::Edge(0, 2),
+    ];
     show(&rt, &mut network, &task)?;
-    let refusals = [Call::Insert(0, 1, pulses[3]), Call::Insert(0, 3, pulses[0]), Call::Open(0), Call::Open(65), Call::Closure(3, 0)];
+    let refusals = [
+        Call::Insert(0, 1, pulses[3]),
+        Call::Insert(0, 3, pulses[0]),
+        Call::Open(0),
+        Call::Open(65),
+        Call::Closure(3, 0),
+    ];
     show(&rt, &mut network, &refusals)?;
     drop(network);
     println!(rt, "23 cells, one too few for 3 nodes")?;

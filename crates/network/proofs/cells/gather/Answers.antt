@@ -19,4 +19,4 @@ loop-i-again g c =
     let new = λ (i : Prim.Native.Nat.ℕ). getD xs (c .args .a + i * c .args .by) (blank k) in
     let near : from < c .args .b = c .pre .1 .0 i (omega arith) in
     over-more new (c .args .b) xs (c .loop-i .cells) i (c .args .b + i) (c .index-cells-a .result) (c .loop-i .inv) refl (omega arith)
-        (getD-read (c .loop-i .cells) from (c .index-cells-a .result) (omega arith) (c .index-cells-a .is) (blank k) ∙ ap (λ l. getD l from (blank k)) (c .loop-i .inv) ∙ getD-over-below new (c .args .b) xs i from (blank k) near (omega arith))
+    (getD-read (c .loop-i .cells) from (c .index-cells-a .result) (omega arith) (c .index-cells-a .is) (blank k) ∙ ap (λ l. getD l from (blank k)) (c .loop-i .inv) ∙ getD-over-below new (c .args .b) xs i from (blank k) near (omega arith))

@@ -41,7 +41,7 @@ loop-x-again g c =
     let t-is : c .unwrap-or-t .result ≡ times k (column x) (c .args .m) = cc in
     let t = c .unwrap-or-t .result in
     pass-row k column (c .args .m) row n a xs ys (c .relax .last .cells) x t (omega arith) (omega arith) (c .loop-x .inv) t-is
-        (c .relax .ensures ∙ ap (λ r. over (λ y. raised k t (r y) (getD ys (a + x * n + y) (blank k))) (a + x * n) n ys) row-is)
+    (c .relax .ensures ∙ ap (λ r. over (λ y. raised k t (r y) (getD ys (a + x * n + y) (blank k))) (a + x * n) n ys) row-is)
 
 pub returns : need.returns
 returns g c =

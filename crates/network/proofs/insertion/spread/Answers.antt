@@ -17,5 +17,5 @@ gather-requires-2 g c κs =
 pub returns : need.returns
 returns g c =
     spread-is (g .S·Semiring .entries) (c .args .n) (c .args .i) (c .args .j) (c .args .cells .now) (c .gather .last .cells) (c .gather-2 .last .cells)
-        (omega arith) (omega arith) (omega arith) (c .gather .ensures) (c .gather-2 .ensures)
-        (c .args .m) (c .pass .last .cells) (c .clear .last .cells) (c .pass .ensures) (c .clear .ensures)
+    (omega arith) (omega arith) (omega arith) (c .gather .ensures) (c .gather-2 .ensures)
+    (c .args .m) (c .pass .last .cells) (c .clear .last .cells) (c .pass .ensures) (c .clear .ensures)

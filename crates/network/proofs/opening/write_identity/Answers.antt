@@ -18,7 +18,8 @@ loop-p-again g c =
     let n = c .args .n in
     let p = c .loop-p .p in
     let entry-is : c .if-p-n .e ≡ cond (eqb (p / n) (p % n)) (k .unit) (k .none) =
-        elim (c .if-p-n .came) [
-          then-p-n w ↦ w .e-is ∙ w .unit-e .ensures ∙ sym (ap (λ b. cond b (k .unit) (k .none)) (eq-eqb (p / n) (p % n) (w .if-p-n .taken)))
-        | else-p-n w ↦ w .e-is ∙ w .none-e .ensures ∙ sym (ap (λ b. cond b (k .unit) (k .none)) (ne-eqb (p / n) (p % n) (w .if-p-n .left))) ] in
+    elim (c .if-p-n .came) [
+      | then-p-n w ↦ w .e-is ∙ w .unit-e .ensures ∙ sym (ap (λ b. cond b (k .unit) (k .none)) (eq-eqb (p / n) (p % n) (w .if-p-n .taken)))
+      | else-p-n w ↦ w .e-is ∙ w .none-e .ensures ∙ sym (ap (λ b. cond b (k .unit) (k .none)) (ne-eqb (p / n) (p % n) (w .if-p-n .left)))
+    ] in
     c .put .ensures ∙ over-more (identity-cell k n) (c .args .a) (c .args .cells .now) (c .loop-p .cells) p (c .args .a + p) (k .write (c .if-p-n .e)) (c .loop-p .inv) refl (omega arith) (ap (k .write) entry-is)
