@@ -29,6 +29,10 @@ row-fits i n h = omega (arith, row-end i n, mul-le (i + 1) n n n (omega arith) (
 pub place-fits : (i j n : ℕ) → i < n → j < n → i * n + j < n * n
 place-fits i j n h l = let fits = row-fits i n h in omega arith
 
+-- a pair of nodes, either way round
+pub places-fit : (i j n : ℕ) → i < n → j < n → (i * n + j < n * n) × (j * n + i < n * n)
+places-fit i j n h l = (place-fits i j n h l, place-fits j i n l h)
+
 pub square-small : (n m : ℕ) → n ≤ m → n * n ≤ m * m
 square-small n m h = mul-le n n m m h h
 

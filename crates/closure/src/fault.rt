@@ -10,6 +10,11 @@ pub struct Place {
     pub column: usize,
 }
 
+impl Place {
+    // Where no entry is to blame.
+    pub const NOWHERE: Place = Place { row: 0, column: 0 };
+}
+
 pub impl fmt::Display for Place as PlaceDisplay {
     ghost shown = { λ p. Some (place-text p) };
 
@@ -51,10 +56,7 @@ impl<F> TableFault<F> {
         ensures { λ r. ⌜ r ≡ described (now (self .entry)) .place ⌝ }
     {
         match self {
-            TableFault::NodeCount | TableFault::TooShort | TableFault::NotANode => Place {
-                row: 0,
-                column: 0,
-            },
+            TableFault::NodeCount | TableFault::TooShort | TableFault::NotANode => Place::NOWHERE,
             TableFault::NotAnEdge(place)
             | TableFault::TooLarge(place, _)
             | TableFault::Cycle(place, _) => *place,

@@ -38,10 +38,8 @@ impl<F> NetworkFault<F> {
         ensures { λ r. ⌜ r ≡ described (now (self .entry)) .place ⌝ }
     {
         match self {
-            NetworkFault::NodeCount | NetworkFault::TooShort | NetworkFault::NotANode => Place {
-                row: 0,
-                column: 0,
-            },
+            NetworkFault::NodeCount | NetworkFault::TooShort | NetworkFault::NotANode =>
+                Place::NOWHERE,
             NetworkFault::NotAnEdge(place) => *place,
             NetworkFault::Table(fault) => fault.place(),
         }

@@ -16,7 +16,7 @@ use closure::Place;
 use closure::TableFault;
 use semiring::Semiring;
 
-// Whether t times each of the n entries from b on is held.
+// Whether t times each of the n entries from b on is held, as it always is where t is none.
 fn try_row<S: Semiring>(cells: &[S::Cell], t: S::Entry, b: usize, n: usize) -> Result<(), S::Fault>
     requires { ⌜ b + n ≤ length (now cells) ⌝ }
     ensures { λ r. ⌜ r ≡ outcome (row-fault (S·Semiring .entries) t (λ y. at (S·Semiring .entries) (now (cells .entry)) (b + y)) n) tt ⌝ }
@@ -51,7 +51,8 @@ fn try_pass<S: Semiring>(
     Ok(())
 }
 
-// Sums t times the n entries from b on onto those from a on.
+// Sums t times the n entries from b on onto those from a on: nothing, where t is none.
+// A refused product would add nothing either, but `try_row` has refused those before.
 fn relax<S: Semiring>(cells: &mut [S::Cell], a: usize, t: S::Entry, b: usize, n: usize)
     requires { ⌜ a + n ≤ b ⌝ ∗ ⌜ b + n ≤ length (now cells) ⌝ }
     ensures { λ _. ⌜ now (cells .exit) ≡ over (λ y. raised (S·Semiring .entries) t (at (S·Semiring .entries) (now (cells .entry)) (b + y)) (getD (now (cells .entry)) (a + y) (blank (S·Semiring .entries)))) a n (now (cells .entry)) ⌝ }

@@ -125,3 +125,70 @@ fn main(rt: LibcRuntime) -> io::Result<()> {
     drop(network);
     Ok(())
 }
+
+#[cfg(test)]
+mod tests {
+    use super::*;
+    use kinds::KindNumberDebug;
+    use network::NetworkFaultDebug;
+    use std::test::*;
+
+    // The number of a refusal, 0 where there is none.
+    fn refused(result: Result<(), NetworkFault<KindNumber>>) -> u8 {
+        match result {
+            Ok(()) => 0,
+            Err(fault) => fault.number(),
+        }
+    }
+
+    fn pulses(number: u64) -> Result<Pulses, Fail> {
+        match Pulses::new(number) {
+            Some(entry) => Ok(entry),
+            None => Err(Fail::new("no entry has this number")),
+        }
+    }
+
+    #[test]
+    fn best_of_two_ways() -> Result<(), Fail> {
+        let mut cells = [0; 24];
+        let mut network = Network::<Pulses>::wrap(&mut cells);
+        check_eq(refused(network.open(3)), 0)?;
+        check_eq(refused(network.insert(0, 2, pulses(900)?)), 0)?;
+        check_eq(refused(network.insert(1, 2, pulses(300)?)), 0)?;
+        check_eq(refused(network.insert(0, 1, pulses(400)?)), 0)?;
+        check_eq(network.closure(0, 2)?.number(), Some(700))?;
+        check_eq(network.edge(0, 2)?.number(), Some(900))?;
+        check_eq(network.closure(2, 0)?.number(), None)
+    }
+
+    #[test]
+    fn one_node_reaches_itself() -> Result<(), Fail> {
+        let mut cells = [0; 4];
+        let mut network = Network::<Pulses>::wrap(&mut cells);
+        check_eq(refused(network.open(1)), 0)?;
+        check_eq(network.closure(0, 0)?.number(), Some(0))
+    }
+
+    #[test]
+    fn node_counts_from_1_to_64() -> Result<(), Fail> {
+        let mut cells = [0; 8320];
+        let mut network = Network::<Pulses>::wrap(&mut cells);
+        check_eq(refused(network.open(0)), 1)?;
+        check_eq(refused(network.open(65)), 1)?;
+        check_eq(refused(network.open(64)), 0)?;
+        check_eq(network.closure(63, 63)?.number(), Some(0))
+    }
+
+    #[test]
+    fn cells_behind_the_network_stay() -> Result<(), Fail> {
+        let mut cells = [7; 13];
+        let mut network = Network::<Pulses>::wrap(&mut cells);
+        check_eq(refused(network.open(2)), 0)?;
+        check_eq(refused(network.insert(0, 1, pulses(5)?)), 0)?;
+        check_eq(refused(network.insert(1, 0, pulses(1_000_001)?)), 4)?;
+        drop(network);
+        check_eq(cells[1], 5)?;
+        check_eq(cells[5], 5)?;
+        check_eq(cells[12], 7)
+    }
+}
