@@ -7,7 +7,7 @@ use Rattle.std.specs.declared.option.Option.{Option}
 use Rattle.std.specs.declared.option.Option.the-variants.{Some, None}
 use Rattle.std.specs.declared.result.Result.{Result}
 use Rattle.std.specs.declared.result.Result.the-variants.{Ok, Err}
-use Rattle.closure.specs.Cells.{first, either, outcome}
+use Rattle.closure.specs.Outcomes.{first, either, outcome}
 
 module _ {A : Type 0} where
   pub first-none : (f : ℕ → Option A) → first f 0 ≡ None

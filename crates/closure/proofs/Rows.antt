@@ -15,7 +15,8 @@ use Rattle.std.proofs.shelf.Bits.{div-mul-add, mod-mul-add, mul-le}
 use Rattle.semiring.specs.Algebra.{Semiring, Laws}
 use Rattle.semiring.specs.Entries.{Entries, Exact}
 use Rattle.semiring.proofs.Held.{none-product, same-equal, sum-none}
-use Rattle.closure.specs.Cells.{over, first, either, failed, blank, at, table-at, times}
+use Rattle.closure.specs.Cells.{over, blank, at, table-at, times}
+use Rattle.closure.specs.Outcomes.{first, either, failed}
 use Rattle.closure.specs.Passes.{row-fault, raised, line-fault, pass-fault, passed-cell}
 use Rattle.closure.proofs.First.{first-same, first-of-none}
 use Rattle.closure.proofs.Over.{over-join, over-itself, getD-over-past}

@@ -1,14 +1,10 @@
--- Lists of cells, what loops over them leave, and the first of several refusals.
+-- Lists of cells, and what loops over them leave.
 use mathlib.Core.Path.{_≡_}
 use mathlib.Core.List.{List, _++_, map}
-use Prim.Native.Nat.{ℕ, zero, suc, _+_, _*_}
+use Prim.Native.Nat.{ℕ, _+_, _*_}
 use lib.ListN.{getD, take, drop}
 use Rattle.std.specs.Iters.{counting}
 use Rattle.std.specs.Results.{valueOr}
-use Rattle.std.specs.declared.option.Option.{Option}
-use Rattle.std.specs.declared.option.Option.the-variants.{Some, None}
-use Rattle.std.specs.declared.result.Result.{Result}
-use Rattle.std.specs.declared.result.Result.the-variants.{Ok, Err}
 use Rattle.semiring.specs.Algebra.{Semiring}
 use Rattle.semiring.specs.Entries.{Entries}
 
@@ -19,34 +15,6 @@ over f a m xs = take a xs ++ (map f (counting 0 m) ++ drop (a + m) xs)
 -- ys differs from xs in the m places from a on alone
 abbrev pub Kept : {A : Type 0} → ℕ → ℕ → List A → List A → Type 0
 Kept a m xs ys = (take a ys ≡ take a xs) × (drop (a + m) ys ≡ drop (a + m) xs)
-
--- the first of two
-abbrev pub either : {A : Type 0} → Option A → Option A → Option A
-either (Some x) o = Some x
-either None o = o
-
--- the first that f gives below m
-unfoldable pub first : {A : Type 0} → (ℕ → Option A) → ℕ → Option A
-first f zero = None
-first f (suc m) = either (first f m) (f m)
-
-abbrev pub failed : {A F : Type 0} → Result A F → Option F
-failed (Ok x) = None
-failed (Err w) = Some w
-
--- x, unless something is refused
-abbrev pub outcome : {A F : Type 0} → Option F → A → Result A F
-outcome (Some w) x = Err w
-outcome None x = Ok x
-
--- what an accepted call leaves, or a refused one
-abbrev pub unless : {A F : Type 0} → Option F → A → A → A
-unless None accepted refused = accepted
-unless (Some w) accepted refused = refused
-
-abbrev pub faults : {A F G : Type 0} → (F → G) → Result A F → Result A G
-faults f (Ok x) = Ok x
-faults f (Err w) = Err (f w)
 
 module _ {s : Semiring} {Entry Cell Fault : Type 0} (k : Entries s Entry Cell Fault) where
   -- the cell of none

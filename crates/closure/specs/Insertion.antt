@@ -9,7 +9,7 @@ use Rattle.semiring.specs.Algebra.{Semiring}
 use Rattle.semiring.specs.Entries.{Entries}
 use Rattle.closure.specs.declared.fault.Place.{Place}
 use Rattle.closure.specs.Refusals.{Refusal, place, too-large, cycle}
-use Rattle.closure.specs.Cells.{faults}
+use Rattle.closure.specs.Outcomes.{and-then, map-err}
 use Rattle.closure.specs.Passes.{passed, pass-fault}
 
 -- the refusal of a product that some step met
@@ -17,16 +17,12 @@ abbrev pub blamed : {F : Type 0} → Place → Option F → Option (Refusal F)
 blamed p None = None
 blamed p (Some w) = Some (too-large p w)
 
-abbrev pub then : {A B F : Type 0} → Result A F → (A → Result B F) → Result B F
-then (Ok x) next = next x
-then (Err w) next = Err w
-
 module _ {s : Semiring} {Entry Cell Fault : Type 0} (k : Entries s Entry Cell Fault) (i j : ℕ) where
   -- m, the edge after any number of laps: p = σ·back is one lap, q its star, and m = q·σ
   abbrev pub factor : Entry → Entry → Result Entry (Refusal Fault)
   factor σ back =
-      then (faults (too-large (place i j)) (k .product σ back))
-      (λ p. then (faults (cycle (place i j)) (k .star p)) (λ q. faults (too-large (place i j)) (k .product q σ)))
+      and-then (map-err (too-large (place i j)) (k .product σ back))
+      (λ p. and-then (map-err (cycle (place i j)) (k .star p)) (λ q. map-err (too-large (place i j)) (k .product q σ)))
 
   module _ (t : ℕ → ℕ → Entry) where
     -- T[x,y] + (T[x,i]·m)·T[j,y]

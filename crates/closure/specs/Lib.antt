@@ -1,5 +1,6 @@
 pub mod Limits
 pub mod Refusals
+pub mod Outcomes
 pub mod Cells
 pub mod Passes
 pub mod Insertion

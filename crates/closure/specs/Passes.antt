@@ -6,7 +6,8 @@ use lib.ListN.{getD}
 use Rattle.std.specs.declared.option.Option.{Option}
 use Rattle.semiring.specs.Algebra.{Semiring}
 use Rattle.semiring.specs.Entries.{Entries}
-use Rattle.closure.specs.Cells.{first, either, failed, blank, times}
+use Rattle.closure.specs.Cells.{blank, times}
+use Rattle.closure.specs.Outcomes.{first, either, failed}
 
 module _ {s : Semiring} {Entry Cell Fault : Type 0} (k : Entries s Entry Cell Fault) where
   -- the first refused product of t with the n entries of a row

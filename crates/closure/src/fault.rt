@@ -39,7 +39,7 @@ pub enum TableFault<F> {
 impl<F> TableFault<F> {
     // The refusal's number, as the rules count them.
     pub fn number(&self) -> u8
-        ensures { λ r. ⌜ r ≡ described (now (self .entry)) .number ⌝ }
+        ensures number_described { λ r. ⌜ r ≡ described (now (self .entry)) .number ⌝ }
     {
         match self {
             TableFault::NodeCount => 1,
@@ -53,7 +53,7 @@ impl<F> TableFault<F> {
 
     // The place that the refusal names, (0,0) where none is to blame.
     pub fn place(&self) -> Place
-        ensures { λ r. ⌜ r ≡ described (now (self .entry)) .place ⌝ }
+        ensures place_described { λ r. ⌜ r ≡ described (now (self .entry)) .place ⌝ }
     {
         match self {
             TableFault::NodeCount | TableFault::TooShort | TableFault::NotANode => Place::NOWHERE,

@@ -21,6 +21,7 @@ use Rattle.closure.proofs.Over.{length-over, getD-over-below, getD-over-in, get
 use Rattle.closure.proofs.Rows.{place-fits, read-raised}
 use Rattle.network.specs.Faults.{needed}
 use Rattle.network.specs.Layout.{edge-of, closure-of, identity-cell, opened, inserted-cells}
+use Rattle.network.specs.State.{state-with}
 use Rattle.network.specs.Meaning.{Tidy, Opened, Inserted}
 
 -- the closure written by f, the scratch by z, and the cell e of the edges by v
@@ -86,9 +87,10 @@ module _ {s : Semiring} {Entry Cell Fault : Type 0} (k : Entries s Entry Cell Fa
       let cell = getD-over-in (identity-cell k n) (n * n) cleared (n * n) (i * n + j) (n * n + (i * n + j)) (blank k) fits (omega (arith, cleared-long)) refl in
       ap (k .read) cell ∙ exact .read-write (cond (eqb ((i * n + j) / n) ((i * n + j) % n)) (k .unit) (k .none)) ∙ (cc)
 
-  pub opened-means : Opened k n xs (opened k n xs)
-  opened-means =
+  pub opened-means : (was : ℕ) → Opened k n (state-with was xs) (state-with n (opened k n xs))
+  opened-means was =
       record {
+        node-count = refl;
         edges-none = λ i j h l.
             let fits = place-fits i j n h l in
             ap (k .read) (getD-over-below (identity-cell k n) (n * n) cleared (n * n) (i * n + j) (blank k) fits (omega (arith, cleared-long)) ∙ cleared-blank (i * n + j) (omega arith)) ∙ exact .read-write (k .none);
@@ -101,7 +103,7 @@ module _ {s : Semiring} {Entry Cell Fault : Type 0} (k : Entries s Entry Cell Fa
       }
 
   module _ (l : Laws s) (i j : ℕ) (i-in : i < n) (j-in : j < n) (σ : Entry) where
-    pub inserted-means : Inserted k n xs (inserted-cells k n i j σ xs) i j σ
+    pub inserted-means : Inserted k i j σ (state-with n xs) (state-with n (inserted-cells k n i j σ xs))
     inserted-means =
         let m = valueOr (factor k i j σ (closure-of k n xs j i)) (k .none) in
         let column = λ (x : ℕ). closure-of k n xs x i in
@@ -112,6 +114,7 @@ module _ {s : Semiring} {Entry Cell Fault : Type 0} (k : Entries s Entry Cell Fa
         let before : edge-of k n ws i j ≡ edge-of k n xs i j = ap (k .read) (edge-before f (blank k) n e (blank k) xs room fits (blank k) e fits) in
         let v = k .write (k .sum (edge-of k n ws i j) σ) in
         record {
+          node-count-kept = refl;
           closure-inserted = λ x y h t.
               let in-table = place-fits x y n h t in
               let row = div-mul-add x n y t in

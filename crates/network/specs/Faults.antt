@@ -7,7 +7,7 @@ use Rattle.std.specs.declared.option.Option.the-variants.{Some, None}
 use Rattle.std.specs.declared.result.Result.{Result}
 use Rattle.closure.specs.Limits.{max-nodes}
 use Rattle.closure.specs.Refusals.{Refusal, network, place, plain, no-edge, described as table-described}
-use Rattle.closure.specs.Cells.{either, faults}
+use Rattle.closure.specs.Outcomes.{either, map-err}
 use Rattle.network.specs.declared.fault.NetworkFault.{NetworkFault}
 use Rattle.network.specs.declared.fault.NetworkFault.the-variants.{NodeCount, TooShort, NotANode, NotAnEdge, Table}
 
@@ -18,9 +18,9 @@ described NotANode = plain network 3
 described (NotAnEdge p) = no-edge network p
 described (Table t) = table-described t
 
--- what a call answers, its faults by what they say
+-- what a call answers, its fault by what it says
 abbrev pub answer : {A F : Type 0} → Result A (NetworkFault F) → Result A (Refusal F)
-answer r = faults described r
+answer r = map-err described r
 
 -- n² edges, n² closure entries, 2n cells of scratch
 abbrev pub needed : ℕ → ℕ

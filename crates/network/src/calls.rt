@@ -1,13 +1,12 @@
 // The calls that make a network, change it and read it.
 ghost use mathlib.Core.Path.{_≡_};
 ghost use denote.Ref.{name};
-ghost use lib.ListN.{length};
 ghost use Rattle.std.specs.declared.option.Option.the-variants.{None};
-ghost use Rattle.closure.specs.Cells.{outcome, unless};
-ghost use Rattle.network.specs.Calls.{after-insert, after-open, insert-refusal, open-refusal};
-ghost use Rattle.network.specs.Faults.{answer, pair-refusal};
-ghost use Rattle.network.specs.Layout.{closure-of, edge-of};
+ghost use Rattle.closure.specs.Outcomes.{outcome};
+ghost use Rattle.network.specs.Calls.{after-insert, after-open, closure-answer, edge-answer, insert-refusal, open-refusal};
+ghost use Rattle.network.specs.Faults.{answer};
 ghost use Rattle.network.specs.Meaning.{Inserted, Opened};
+ghost use Rattle.network.specs.State.{state};
 use crate::Network;
 use crate::cells::entry;
 use crate::checks::check_pair;
@@ -21,11 +20,10 @@ use semiring::Semiring;
 impl<S: Semiring> Network<'_, S> {
     // Makes it a network of n nodes and no edges.
     pub fn open(&mut self, n: usize) -> Result<(), NetworkFault<S::Fault>>
-        ensures answered { λ r. ⌜ answer r ≡ outcome (open-refusal (S·Semiring .entries) n (now (now (self .entry) .cells))) tt ⌝ }
-        ensures node_count_after { λ r. ⌜ now (self .exit) .n ≡ unless (open-refusal (S·Semiring .entries) n (now (now (self .entry) .cells))) n (now (self .entry) .n) ⌝ }
-        ensures cells_after { λ r. ⌜ now (now (self .exit) .cells) ≡ after-open (S·Semiring .entries) n (now (now (self .entry) .cells)) ⌝ }
-        ensures accepted_opens { λ r. ⌜ (open-refusal (S·Semiring .entries) n (now (now (self .entry) .cells)) ≡ None → Opened (S·Semiring .entries) n (now (now (self .entry) .cells)) (now (now (self .exit) .cells))) ⌝ }
-        ensures cells_lent { λ r. ⌜ name (now (self .exit) .cells) ≡ name (now (self .entry) .cells) ⌝ }
+        ensures answered { λ r. ⌜ answer r ≡ outcome (open-refusal (S·Semiring .entries) n (state (now (self .entry)))) tt ⌝ }
+        ensures state_after { λ _. ⌜ state (now (self .exit)) ≡ after-open (S·Semiring .entries) n (state (now (self .entry))) ⌝ }
+        ensures accepted_opens { λ _. ⌜ (open-refusal (S·Semiring .entries) n (state (now (self .entry))) ≡ None → Opened (S·Semiring .entries) n (state (now (self .entry))) (state (now (self .exit)))) ⌝ }
+        ensures cells_lent { λ _. ⌜ name (now (self .exit) .cells) ≡ name (now (self .entry) .cells) ⌝ }
     {
         let len = self.cells.len();
         check_size(n, len)?;
@@ -36,7 +34,7 @@ impl<S: Semiring> Network<'_, S> {
 
     // The edge from i to j.
     pub fn edge(&self, i: usize, j: usize) -> Result<S::Entry, NetworkFault<S::Fault>>
-        ensures { λ r. ⌜ answer r ≡ outcome (pair-refusal (now (self .entry) .n) (length (now (now (self .entry) .cells))) i j) (edge-of (S·Semiring .entries) (now (self .entry) .n) (now (now (self .entry) .cells)) i j) ⌝ }
+        ensures edge_or_refusal { λ r. ⌜ answer r ≡ edge-answer (S·Semiring .entries) i j (state (now (self .entry))) ⌝ }
     {
         let n = self.n;
         check_pair(n, self.cells.len(), i, j)?;
@@ -45,7 +43,7 @@ impl<S: Semiring> Network<'_, S> {
 
     // The closure entry from i to j.
     pub fn closure(&self, i: usize, j: usize) -> Result<S::Entry, NetworkFault<S::Fault>>
-        ensures { λ r. ⌜ answer r ≡ outcome (pair-refusal (now (self .entry) .n) (length (now (now (self .entry) .cells))) i j) (closure-of (S·Semiring .entries) (now (self .entry) .n) (now (now (self .entry) .cells)) i j) ⌝ }
+        ensures closure_or_refusal { λ r. ⌜ answer r ≡ closure-answer (S·Semiring .entries) i j (state (now (self .entry))) ⌝ }
     {
         let n = self.n;
         check_pair(n, self.cells.len(), i, j)?;
@@ -59,11 +57,10 @@ impl<S: Semiring> Network<'_, S> {
         j: usize,
         edge: S::Entry,
     ) -> Result<(), NetworkFault<S::Fault>>
-        ensures answered { λ r. ⌜ answer r ≡ outcome (insert-refusal (S·Semiring .entries) (now (self .entry) .n) i j edge (now (now (self .entry) .cells))) tt ⌝ }
-        ensures cells_after { λ r. ⌜ now (now (self .exit) .cells) ≡ after-insert (S·Semiring .entries) (now (self .entry) .n) i j edge (now (now (self .entry) .cells)) ⌝ }
-        ensures accepted_inserts { λ r. ⌜ (insert-refusal (S·Semiring .entries) (now (self .entry) .n) i j edge (now (now (self .entry) .cells)) ≡ None → Inserted (S·Semiring .entries) (now (self .entry) .n) (now (now (self .entry) .cells)) (now (now (self .exit) .cells)) i j edge) ⌝ }
-        ensures node_count_kept { λ r. ⌜ now (self .exit) .n ≡ now (self .entry) .n ⌝ }
-        ensures cells_lent { λ r. ⌜ name (now (self .exit) .cells) ≡ name (now (self .entry) .cells) ⌝ }
+        ensures answered { λ r. ⌜ answer r ≡ outcome (insert-refusal (S·Semiring .entries) i j edge (state (now (self .entry)))) tt ⌝ }
+        ensures state_after { λ _. ⌜ state (now (self .exit)) ≡ after-insert (S·Semiring .entries) i j edge (state (now (self .entry))) ⌝ }
+        ensures accepted_inserts { λ _. ⌜ (insert-refusal (S·Semiring .entries) i j edge (state (now (self .entry))) ≡ None → Inserted (S·Semiring .entries) i j edge (state (now (self .entry))) (state (now (self .exit)))) ⌝ }
+        ensures cells_lent { λ _. ⌜ name (now (self .exit) .cells) ≡ name (now (self .entry) .cells) ⌝ }
     {
         let n = self.n;
         let len = self.cells.len();

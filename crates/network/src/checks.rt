@@ -1,7 +1,7 @@
 ghost use mathlib.Core.Path.{_≡_};
 ghost use Prim.Native.Nat.{_<_, _≤_};
 ghost use Rattle.std.specs.Vec.{made};
-ghost use Rattle.closure.specs.Cells.{outcome};
+ghost use Rattle.closure.specs.Outcomes.{outcome};
 ghost use Rattle.closure.specs.Limits.{max-nodes};
 ghost use Rattle.network.specs.Faults.{answer, needed as cells-needed, size-refusal, pair-refusal};
 use crate::fault::NetworkFault;

@@ -22,7 +22,7 @@ pub enum NetworkFault<F> {
 impl<F> NetworkFault<F> {
     // The refusal's number, as the rules count them.
     pub fn number(&self) -> u8
-        ensures { λ r. ⌜ r ≡ described (now (self .entry)) .number ⌝ }
+        ensures number_described { λ r. ⌜ r ≡ described (now (self .entry)) .number ⌝ }
     {
         match self {
             NetworkFault::NodeCount => 1,
@@ -35,7 +35,7 @@ impl<F> NetworkFault<F> {
 
     // The pair of nodes that the refusal names, (0,0) where none is to blame.
     pub fn place(&self) -> Place
-        ensures { λ r. ⌜ r ≡ described (now (self .entry)) .place ⌝ }
+        ensures place_described { λ r. ⌜ r ≡ described (now (self .entry)) .place ⌝ }
     {
         match self {
             NetworkFault::NodeCount | NetworkFault::TooShort | NetworkFault::NotANode =>

@@ -1,7 +1,8 @@
 ghost use mathlib.Core.Path.{_≡_};
 ghost use Prim.Native.Nat.{ℕ, _+_, _*_, _<_, _≤_};
 ghost use lib.ListN.{length, getD};
-ghost use Rattle.closure.specs.Cells.{over, outcome, faults, unless, blank, at, table-at};
+ghost use Rattle.closure.specs.Cells.{over, blank, at, table-at};
+ghost use Rattle.closure.specs.Outcomes.{outcome, map-err, unless};
 ghost use Rattle.closure.specs.Insertion.{factor as factor-of, insertion-refusal};
 ghost use Rattle.closure.specs.Limits.{max-nodes};
 ghost use Rattle.closure.specs.Passes.{row-fault, raised, pass-fault, passed-cell};
@@ -85,7 +86,7 @@ fn factor<S: Semiring>(
     edge: S::Entry,
     back: S::Entry,
 ) -> Result<S::Entry, TableFault<S::Fault>>
-    ensures { λ r. ⌜ faults described r ≡ factor-of (S·Semiring .entries) i j edge back ⌝ }
+    ensures { λ r. ⌜ map-err described r ≡ factor-of (S·Semiring .entries) i j edge back ⌝ }
 {
     let place = Place { row: i, column: j };
     let lap = match S::product(edge, back) {
@@ -124,7 +125,7 @@ pub(crate) fn insert_edge<S: Semiring>(
     edge: S::Entry,
 ) -> Result<(), TableFault<S::Fault>>
     requires { ⌜ n ≤ max-nodes ⌝ ∗ ⌜ i < n ⌝ ∗ ⌜ j < n ⌝ ∗ ⌜ needed n ≤ length (now cells) ⌝ }
-    ensures answer { λ r. ⌜ faults described r ≡ outcome (insertion-refusal (S·Semiring .entries) i j (closure-of (S·Semiring .entries) n (now (cells .entry))) n edge) tt ⌝ }
+    ensures answer { λ r. ⌜ map-err described r ≡ outcome (insertion-refusal (S·Semiring .entries) i j (closure-of (S·Semiring .entries) n (now (cells .entry))) n edge) tt ⌝ }
     ensures cells_after { λ r. ⌜ now (cells .exit) ≡ unless (insertion-refusal (S·Semiring .entries) i j (closure-of (S·Semiring .entries) n (now (cells .entry))) n edge) (inserted-cells (S·Semiring .entries) n i j edge (now (cells .entry))) (now (cells .entry)) ⌝ }
 {
     let closure = n * n;

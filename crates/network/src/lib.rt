@@ -1,5 +1,6 @@
 ghost use mathlib.Core.Path.{_≡_};
 ghost use denote.Ref.{name};
+ghost use Rattle.network.specs.State.{state, state-with};
 use semiring::Semiring;
 
 mod calls;
@@ -31,15 +32,14 @@ impl<S: Semiring> Drop for Network<'_, S> {
 impl<'a, S: Semiring> Network<'a, S> {
     // A network of no nodes, which `open` then makes.
     pub fn wrap(cells: &'a mut [S::Cell]) -> Network<'a, S>
-        ensures no_nodes { λ r. ⌜ r .n ≡ 0 ⌝ }
-        ensures cells_kept { λ r. ⌜ now (r .cells) ≡ now (cells .entry) ⌝ }
+        ensures no_nodes_cells_kept { λ r. ⌜ state r ≡ state-with 0 (now (cells .entry)) ⌝ }
         ensures cells_lent { λ r. ⌜ name (r .cells) ≡ name (cells .entry) ⌝ }
     {
         Network { cells, n: 0 }
     }
 
     pub fn node_count(&self) -> usize
-        ensures { λ r. ⌜ r ≡ now (self .entry) .n ⌝ }
+        ensures count_of_nodes { λ r. ⌜ r ≡ state (now (self .entry)) .n ⌝ }
     {
         self.n
     }

@@ -180,7 +180,7 @@ mod tests {
     }
 
     #[test]
-    fn cells_behind_the_network_stay() -> Result<(), Fail> {
+    fn cells_behind_the_network_are_kept() -> Result<(), Fail> {
         let mut cells = [7; 13];
         let mut network = Network::<Pulses>::wrap(&mut cells);
         check_eq(refused(network.open(2)), 0)?;

@@ -17,7 +17,7 @@ impl Pulses {
 
     // The entry of a number that is at most the limit.
     pub fn new(number: u64) -> Option<Pulses>
-        ensures { λ r. ⌜ r ≡ checked number ⌝ }
+        ensures entry_up_to_the_limit { λ r. ⌜ r ≡ checked number ⌝ }
     {
         if number > Self::LIMIT {
             None
@@ -37,7 +37,7 @@ impl Pulses {
 
     // The number of an entry that is not none.
     pub fn number(self) -> Option<u64>
-        ensures { λ r. ⌜ r ≡ known (value self) ⌝ }
+        ensures number_unless_none { λ r. ⌜ r ≡ known (value self) ⌝ }
     {
         if self.number > Self::LIMIT {
             None

@@ -4,7 +4,8 @@ use native.Mathlib.Omega.{arith}
 use borrow.Author.Needs.{needs}
 use Rattle.std.specs.declared.result.Result.the-variants.{Ok, Err}
 use Rattle.std.proofs.shelf.Results.{err-from-errBy}
-use Rattle.closure.specs.Cells.{first, outcome, table-at}
+use Rattle.closure.specs.Cells.{table-at}
+use Rattle.closure.specs.Outcomes.{first, outcome}
 use Rattle.closure.specs.Passes.{row-fault, line-fault}
 use Rattle.closure.proofs.First.{first-none, first-next, first-here, none-from-ok, some-from-err}
 use Rattle.closure.proofs.Rows.{row-fits, place-fits, row-at, fault-of-factor, fault-of-row}

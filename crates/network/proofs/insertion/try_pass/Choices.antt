@@ -1,6 +1,7 @@
 use mathlib.Core.Path.{_≡_}
 use Rattle.std.specs.declared.option.Option.the-variants.{None}
-use Rattle.closure.specs.Cells.{first, table-at}
+use Rattle.closure.specs.Cells.{table-at}
+use Rattle.closure.specs.Outcomes.{first}
 use Rattle.closure.specs.Passes.{line-fault}
 use Rattle.network.proofs.insertion.try_pass.Given as given
 

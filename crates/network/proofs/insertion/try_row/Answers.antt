@@ -4,7 +4,8 @@ use native.Mathlib.Omega.{arith}
 use Rattle.std.specs.declared.option.Option.{Option}
 use Rattle.std.specs.declared.result.Result.the-variants.{Ok, Err}
 use Rattle.semiring.proofs.Held.{same-equal}
-use Rattle.closure.specs.Cells.{failed, outcome, at}
+use Rattle.closure.specs.Cells.{at}
+use Rattle.closure.specs.Outcomes.{failed, outcome}
 use Rattle.closure.proofs.First.{first-none, first-next, first-here}
 use Rattle.closure.proofs.Rows.{none-row-fault}
 use Rattle.network.proofs.insertion.try_row.Needs as need
