@@ -11,7 +11,11 @@ use Rattle.std.specs.Iters.{counting}
 use Rattle.std.proofs.shelf.Lists.{append-assoc, take-append-drop, length-take-le, length-append, length-drop, length-take, set-at, set-getD, take-at, drop-at, drop-more, drop-drop, take-take, same-lists, getD-append-left, getD-append-right, getD-take, getD-drop}
 use Rattle.std.proofs.shelf.Counted.{length-map-counting, getD-map-counting, map-counting-more}
 use Rattle.std.proofs.shelf.Tests.{cases-lt}
-use Rattle.closure.specs.Cells.{over, Kept}
+use Rattle.closure.specs.Cells.{over}
+
+-- ys differs from xs in the m places from a on alone
+abbrev pub Kept : {A : Type 0} → ℕ → ℕ → List A → List A → Type 0
+Kept a m xs ys = (take a ys ≡ take a xs) × (drop (a + m) ys ≡ drop (a + m) xs)
 
 module _ {A : Type 0} (f : ℕ → A) (a : ℕ) (xs : List A) where
   pub over-none : over f a 0 xs ≡ xs

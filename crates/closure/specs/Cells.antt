@@ -1,5 +1,4 @@
 -- Lists of cells, and what loops over them leave.
-use mathlib.Core.Path.{_≡_}
 use mathlib.Core.List.{List, _++_, map}
 use Prim.Native.Nat.{ℕ, _+_, _*_}
 use lib.ListN.{getD, take, drop}
@@ -11,10 +10,6 @@ use Rattle.semiring.specs.Entries.{Entries}
 -- xs with its m places from a on written over by f 0, f 1, ..
 unfoldable pub over : {A : Type 0} → (ℕ → A) → ℕ → ℕ → List A → List A
 over f a m xs = take a xs ++ (map f (counting 0 m) ++ drop (a + m) xs)
-
--- ys differs from xs in the m places from a on alone
-abbrev pub Kept : {A : Type 0} → ℕ → ℕ → List A → List A → Type 0
-Kept a m xs ys = (take a ys ≡ take a xs) × (drop (a + m) ys ≡ drop (a + m) xs)
 
 module _ {s : Semiring} {Entry Cell Fault : Type 0} (k : Entries s Entry Cell Fault) where
   -- the cell of none

@@ -8,9 +8,9 @@ use lib.ListN.{length, getD}
 use Rattle.std.proofs.shelf.Bits.{div-below, mod-below}
 use Rattle.semiring.specs.Algebra.{Semiring}
 use Rattle.semiring.specs.Entries.{Entries}
-use Rattle.closure.specs.Cells.{over, Kept, blank, at}
+use Rattle.closure.specs.Cells.{over, blank, at}
 use Rattle.closure.specs.Passes.{passed-cell}
-use Rattle.closure.proofs.Over.{over-same, over-kept, over-of-kept, kept-within, kept-then, kept-apart, getD-kept, length-over, getD-over-below, getD-over-in}
+use Rattle.closure.proofs.Over.{Kept, over-same, over-kept, over-of-kept, kept-within, kept-then, kept-apart, getD-kept, length-over, getD-over-below, getD-over-in}
 use Rattle.closure.proofs.Rows.{place-fits}
 use Rattle.network.specs.Faults.{needed}
 use Rattle.network.specs.Layout.{closure-of, scratch-cleared, closure-passed}
