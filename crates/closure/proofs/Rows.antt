@@ -17,8 +17,8 @@ use Rattle.semiring.specs.Entries.{Entries, Exact}
 use Rattle.semiring.proofs.Held.{none-product, same-equal, sum-none}
 use Rattle.closure.specs.Cells.{over, blank, at, table-at, times}
 use Rattle.closure.specs.Outcomes.{first, either, failed}
-use Rattle.closure.specs.Passes.{row-fault, raised, line-fault, pass-fault, passed-cell}
-use Rattle.closure.proofs.First.{first-same, first-of-none}
+use Rattle.closure.specs.Passes.{row-fault, raised, line-fault, passed-cell}
+use Rattle.closure.proofs.First.{first-of-none}
 use Rattle.closure.proofs.Over.{over-join, over-itself, getD-over-past}
 
 pub row-end : (i n : ℕ) → (i + 1) * n ≡ i * n + n
@@ -89,14 +89,6 @@ module _ {s : Semiring} {Entry Cell Fault : Type 0} (k : Entries s Entry Cell Fa
         let at-column : (x * n + y) % n ≡ y = mod-mul-add x n y l in
         cc in
         zs-is ∙ over-join new (λ y. raised k t (row y) (getD ys (a + x * n + y) (blank k))) a (a + x * n) (x * n) n xs ys ys-is refl (omega arith) each ∙ ap (λ p. over new a p xs) (sym (row-end x n))
-
-  -- a pass's refusal depends on the n entries of its column and of its row alone
-  pub pass-fault-same : (column column′ : ℕ → Entry) (m : Entry) (row row′ : ℕ → Entry) (n : ℕ) → ((x : ℕ) → x < n → column x ≡ column′ x) → ((y : ℕ) → y < n → row y ≡ row′ y) → pass-fault k column m row n ≡ pass-fault k column′ m row′ n
-  pass-fault-same column column′ m row row′ n at-column at-row =
-      first-same (line-fault k column m row n) (line-fault k column′ m row′ n) n (λ x h.
-      let t = times k (column′ x) m in
-      let inner : row-fault k t row n ≡ row-fault k t row′ n = first-same (λ y. failed (k .product t (row y))) (λ y. failed (k .product t (row′ y))) n (λ y l. ap (λ e. failed (k .product t e)) (at-row y l)) in
-      ap (λ e. either (failed (k .product e m)) (row-fault k (times k e m) row n)) (at-column x h) ∙ ap (either (failed (k .product (column′ x) m))) inner)
 
   -- what lies past the part that was written is as it was
   pub past-same : (f : ℕ → Cell) (a m b : ℕ) (xs ys : List Cell) → ys ≡ over f a m xs → a + m ≤ b → a ≤ length xs → _≡_ {A = ℕ → Entry} (λ j. at k ys (b + j)) (λ j. at k xs (b + j))

@@ -90,40 +90,47 @@ fn show(rt: &impl Print, network: &mut Network<'_, Pulses>, calls: &[Call]) -> i
     Ok(())
 }
 
-fn main(rt: LibcRuntime) -> io::Result<()> {
-    let pulses = [
+// Three nodes from nothing to the finished closure, and then what the network refuses.
+fn three_nodes(rt: &impl Print) -> io::Result<()> {
+    let (first, second, direct) = (
         Pulses::new(400).unwrap(),
         Pulses::new(300).unwrap(),
         Pulses::new(900).unwrap(),
-        Pulses::new(1_000_001).unwrap(),
-    ];
+    );
+    let past_the_edge_limit = Pulses::new(1_000_001).unwrap();
     let mut cells = [0; 24];
-    println!(rt, "24 cells: a network of no nodes")?;
     let mut network = Network::<Pulses>::wrap(&mut cells);
+    println!(rt, "24 cells: a network of no nodes")?;
     let task = [
         Call::Open(3),
-        Call::Insert(0, 1, pulses[0]),
-        Call::Insert(1, 2, pulses[1]),
-        Call::Insert(0, 2, pulses[2]),
+        Call::Insert(0, 1, first),
+        Call::Insert(1, 2, second),
+        Call::Insert(0, 2, direct),
         Call::Closure(0, 2),
         Call::Edge(0, 2),
     ];
-    show(&rt, &mut network, &task)?;
-    let refusals = [
-        Call::Insert(0, 1, pulses[3]),
-        Call::Insert(0, 3, pulses[0]),
+    show(rt, &mut network, &task)?;
+    let refused = [
+        Call::Insert(0, 1, past_the_edge_limit),
+        Call::Insert(0, 3, first),
+        Call::Closure(3, 0),
         Call::Open(0),
         Call::Open(65),
-        Call::Closure(3, 0),
     ];
-    show(&rt, &mut network, &refusals)?;
-    drop(network);
-    println!(rt, "23 cells, one too few for 3 nodes")?;
-    let mut short = [0; 23];
-    let mut network = Network::<Pulses>::wrap(&mut short);
-    show(&rt, &mut network, &[Call::Open(3), Call::Closure(0, 0)])?;
-    drop(network);
-    Ok(())
+    show(rt, &mut network, &refused)
+}
+
+// A slice that is one cell too short for three nodes.
+fn one_cell_short(rt: &impl Print) -> io::Result<()> {
+    let mut cells = [0; 23];
+    let mut network = Network::<Pulses>::wrap(&mut cells);
+    println!(rt, "23 cells: a network of no nodes")?;
+    show(rt, &mut network, &[Call::Open(3), Call::Closure(0, 0)])
+}
+
+fn main(rt: LibcRuntime) -> io::Result<()> {
+    three_nodes(&rt)?;
+    one_cell_short(&rt)
 }
 
 #[cfg(test)]
