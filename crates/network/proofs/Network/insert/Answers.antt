@@ -46,7 +46,7 @@ returns-in-Ok g c =
     let held = none-from-ok (map-err table-described (c .insert-edge .result)) steps tt tt (c .insert-edge .ensures .answer) (ap (map-err table-described) (c .in-Ok .is)) in
     let cells-are = c .insert-edge .ensures .cells-after ∙ ap (λ o. unless o (inserted-cells k (v .n) i j (c .args .edge) (v .cells)) (v .cells)) held in
     let pair = none-from-ok (answer (c .check-pair .result)) (read-refusal k i j v) tt tt (c .check-pair .ensures .answer) (ap answer (c .in-Continue-check-pair .was tt)) in
-    let is-edge : k .is-edge (c .args .edge) ≡ true = sym (c .if-not-is-edge .ensures tt) in
+    let is-edge : k .is-edge (c .args .edge) ≡ true = cc in
     let accepted : insert-refusal k i j (c .args .edge) v ≡ None =
     ap (λ o. either o (either (refused-unless (k .is-edge (c .args .edge)) (no-edge network (place i j))) steps)) pair
     ∙ ap (λ b. either (refused-unless b (no-edge network (place i j))) steps) is-edge

@@ -8,7 +8,7 @@ use Rattle.closure.specs.Cells.{table-at}
 use Rattle.closure.specs.Outcomes.{first, outcome}
 use Rattle.closure.specs.Passes.{row-fault, line-fault}
 use Rattle.closure.proofs.First.{first-none, first-next, first-here, none-from-ok, some-from-err}
-use Rattle.closure.proofs.Rows.{row-fits, place-fits, row-at, fault-of-factor, fault-of-row}
+use Rattle.closure.proofs.Rows.{row-fits, row-at, fault-of-factor, fault-of-row}
 use Rattle.network.proofs.insertion.try_pass.Needs as need
 
 pub loop-x-holds : need.loop-x-holds
@@ -18,10 +18,10 @@ loop-x-holds g c =
     first-none (line-fault k (λ x. t x (c .args .i)) (c .args .m) (t (c .args .j)) (c .args .n))
 
 pub add-a : need.add-a
-add-a g c = let fits = place-fits (c .loop-x .x) (c .args .i) (c .args .n) (omega arith) (omega arith) in search needs
+add-a g c = let fits = row-fits (c .loop-x .x) (c .args .n) (omega arith) in search needs
 
 pub entry-requires : need.entry-requires
-entry-requires g c κs = let fits = place-fits (c .loop-x .x) (c .args .i) (c .args .n) (omega arith) (omega arith) in omega arith
+entry-requires g c κs = let fits = row-fits (c .loop-x .x) (c .args .n) (omega arith) in omega arith
 
 pub returns-in-Break-t : need.returns-in-Break-t
 returns-in-Break-t g c =
