@@ -1,9 +1,10 @@
 #!/usr/bin/env python3
-"""Brings the repository's own definitions and lemmas to snake case, at the top of the repository.
+"""Brings the repository's own definitions and lemmas to snake case; run at the top of the repository.
 
-Names of .antt files and of contracts in .rt files that join their words by a hyphen join them by an
-underscore afterwards. Comments keep their words, but for names in back quotes, and so do strings.
-Names that would fall together are listed, and then nothing is written.
+A name that .antt files of the repository declare, or that names a function, a variable or a clause of
+its code, joins its words by an underscore afterwards. Names of the library and those that the check
+makes (`loop-x-init`) keep their hyphens. Comments keep their words, but for names in back quotes, and
+so do strings. Names that would fall together are listed, and then nothing is written.
 """
 
 import glob
@@ -13,6 +14,10 @@ import sys
 NAME = re.compile(r"(?<![\w'-])[A-Za-z_][\w']*(?:-[\w']+)+(?![\w'-])")
 PLAIN = re.compile(r"(?<![\w'-])[A-Za-z_][\w']*(?![\w'-])")
 QUOTED = re.compile(r"`[^`]*`")
+SIGNED = re.compile(r"^\s*(?:(?:abbrev|unfoldable|pub)\s+)*((?:[\w'-]+\s+)+):(?!\s*(?:goal|need)\.)")
+BOUND = re.compile(r"[({]((?:[\w'σ-]+\s+)+):|\blet\s+([\w'-]+)|λ\s+\(?([^.:]*)[.:]|\bas\s+([\w'-]+)")
+CLAUSE = re.compile(r"^\s*[\w'-]+\s+([^=:]*)=(?!\S)")
+LIBRARY = re.compile(r"^(?:ghost )?use Rattle\.std[\w.]*\.\{([^}]*)\}")
 
 # Looked at one by one: functions and clauses of the code that proof files cite in the older spelling,
 # fields of answers that bear a clause's name, and fields of records beside a function of the same name.
@@ -29,8 +34,7 @@ def parts(line, mark):
     out, code, i = [], "", 0
     while i < len(line):
         if line.startswith(mark, i):
-            out += [("code", code), ("comment", line[i:])]
-            return out
+            return out + [("code", code), ("comment", line[i:])]
         if line[i] == '"':
             end = i + 1
             while end < len(line) and line[end] != '"':
@@ -52,22 +56,34 @@ def snake(name):
     return name.replace("-", "_")
 
 
-def main():
-    hyphened, plain = set(), set()
+def read_names():
+    """The hyphened names that are the repository's own, and all names without a hyphen."""
+    own, plain, code_names, all_hyphened, library = set(), set(), set(), set(), set()
     for path, mark in files():
         with open(path, encoding="utf-8") as f:
             for line in f:
-                for kind, text in parts(line, mark):
-                    if kind == "code":
-                        hyphened |= set(NAME.findall(text))
-                        plain |= set(PLAIN.findall(text))
-    together = sorted(n for n in hyphened if snake(n) in plain)
-    if set(together) - ALIKE:
-        print("fall together: " + ", ".join(sorted(set(together) - ALIKE)))
+                library |= {n.strip() for m in LIBRARY.finditer(line) for n in m.group(1).split(",")}
+                code = "".join(text for kind, text in parts(line, mark) if kind == "code")
+                plain |= set(PLAIN.findall(code))
+                all_hyphened |= set(NAME.findall(code))
+                if path.endswith(".rt"):
+                    code_names |= set(PLAIN.findall(code))
+                    continue
+                bound = [g for m in BOUND.finditer(code) for g in m.groups() if g]
+                own |= {n for text in SIGNED.findall(code) + CLAUSE.findall(code) + bound for n in NAME.findall(text)}
+    own |= {n for n in all_hyphened if snake(n) in code_names}
+    return own - library, plain
+
+
+def main():
+    own, plain = read_names()
+    together = {n for n in own if snake(n) in plain} - ALIKE
+    if together:
+        print("fall together: " + ", ".join(sorted(together)))
         return 1
 
     def turn(match):
-        return snake(match.group(0)) if match.group(0) in hyphened else match.group(0)
+        return snake(match.group(0)) if match.group(0) in own else match.group(0)
 
     def quoted(match):
         return NAME.sub(turn, match.group(0))
@@ -82,7 +98,7 @@ def main():
         if new != old:
             with open(path, "w", encoding="utf-8") as f:
                 f.write(new)
-    print(f"{len(hyphened)} names in snake case")
+    print(f"{len(own)} names in snake case")
     return 0
 
 

@@ -1,5 +1,5 @@
 -- The first refusal below a bound, as a loop that stops at it finds it.
-use Rattle.std.proofs.Common.{◌≡◌, ℕ, zero, suc, ◌+◌, ◌-◌, ◌<◌, ◌≤◌, Some, None, Option, refl, ap, ◌∙◌, ⊎_elim, add_zero, add_suc, arith}
+use Rattle.std.proofs.Common.{◌≡◌, ℕ, zero, suc, ◌+◌, ◌-◌, ◌<◌, ◌≤◌, Some, None, Option, refl, ap, ◌∙◌, ⊎_elim, add-zero, add-suc, arith}
 use Rattle.std.proofs.lemmas.Bool.{cases_lt}
 use Rattle.closure.specs.Outcomes.{first, either}
 use Rattle.closure.proofs.Outcomes.{none_of_either}
@@ -11,7 +11,7 @@ module _ {A : Type 0} where
 
   pub first_more : (f : ℕ → Option A) (m : ℕ) → first f (m + 1) ≡ either (first f m) (f m)
   unfolding first
-  first_more f m = ap (first f) (add_suc m 0 ∙ ap suc (add_zero m))
+  first_more f m = ap (first f) (add-suc m 0 ∙ ap suc (add-zero m))
 
   -- one more step of a search that has found nothing
   pub first_next : (f : ℕ → Option A) (m : ℕ) → first f m ≡ None → first f (m + 1) ≡ f m
@@ -37,8 +37,8 @@ module _ {A : Type 0} where
 
   first_on : (f : ℕ → Option A) (m d : ℕ) (w : A) → first f m ≡ Some w → first f (m + d) ≡ Some w
   unfolding first
-  first_on f m zero w h = ap (first f) (add_zero m) ∙ h
-  first_on f m (suc d) w h = ap (first f) (add_suc m d) ∙ ap (λ o. either o (f (m + d))) (first_on f m d w h)
+  first_on f m zero w h = ap (first f) (add-zero m) ∙ h
+  first_on f m (suc d) w h = ap (first f) (add-suc m d) ∙ ap (λ o. either o (f (m + d))) (first_on f m d w h)
 
   -- nothing up to m, and one there: what a search below n finds
   pub first_here : (f : ℕ → Option A) (m n : ℕ) (w : A) → m < n → first f m ≡ None → f m ≡ Some w → first f n ≡ Some w

@@ -1,8 +1,8 @@
 -- One row of a pass, and the places of a table's rows.
-use Rattle.std.proofs.Common.{◌≡◌, ℕ, ◌+◌, ◌*◌, ◌/◌, ◌%◌, ◌<◌, ◌≤◌, true, false, cond, List, length, get_or, Some, None, Ok, Err, Option, Result, sym, refl, ap, ◌∙◌, add_assoc, add_mul, one_mul, arith}
+use Rattle.std.proofs.Common.{◌≡◌, ℕ, ◌+◌, ◌*◌, ◌/◌, ◌%◌, ◌<◌, ◌≤◌, true, false, cond, List, length, get_or, Some, None, Ok, Err, Option, Result, sym, refl, ap, ◌∙◌, add_assoc, add-mul, one-mul, arith}
 use mathlib.Core.Path.{fun_ext}
 use Rattle.std.specs.Result.{result_unwrap_or}
-use Rattle.std.proofs.lemmas.Nat.{div_mul_add, mod_mul_add, mul_le}
+use Rattle.std.proofs.lemmas.Nat.{div-mul-add, mod-mul-add, mul-le}
 use Rattle.semiring.specs.Algebra.{Semiring, Laws}
 use Rattle.semiring.specs.Entries.{Entries, Exact}
 use Rattle.semiring.proofs.Held.{none_product, same_equal, sum_none}
@@ -13,10 +13,10 @@ use Rattle.closure.proofs.First.{first_of_none}
 use Rattle.closure.proofs.Over.{over_join, over_itself, getD_over_past}
 
 pub row_end : (i n : ℕ) → (i + 1) * n ≡ i * n + n
-row_end i n = add_mul i 1 n ∙ ap (λ z. i * n + z) (one_mul n)
+row_end i n = add-mul i 1 n ∙ ap (λ z. i * n + z) (one-mul n)
 
 pub row_fits : (i n : ℕ) → i < n → i * n + n ≤ n * n
-row_fits i n h = omega (arith, row_end i n, mul_le (i + 1) n n n (omega arith) (omega arith))
+row_fits i n h = omega (arith, row_end i n, mul-le (i + 1) n n n (omega arith) (omega arith))
 
 pub place_fits : (i j n : ℕ) → i < n → j < n → i * n + j < n * n
 place_fits i j n h l = let fits = row_fits i n h in omega arith
@@ -26,7 +26,7 @@ pub places_fit : (i j n : ℕ) → i < n → j < n → (i * n + j < n * n) × (j
 places_fit i j n h l = (place_fits i j n h l, place_fits j i n l h)
 
 pub square_small : (n m : ℕ) → n ≤ m → n * n ≤ m * m
-square_small n m h = mul_le n n m m h h
+square_small n m h = mul-le n n m m h h
 
 module _ {s : Semiring} {Entry Cell Fault : Type 0} (k : Entries s Entry Cell Fault) where
   -- a row by the place where it begins
@@ -76,8 +76,8 @@ module _ {s : Semiring} {Entry Cell Fault : Type 0} (k : Entries s Entry Cell Fa
         let each : (y : ℕ) → y < n → raised k t (row y) (get_or ys (a + x * n + y) (blank k)) ≡ new (x * n + y) = λ y l.
         let place : a + x * n + y ≡ a + (x * n + y) = omega arith in
         let old : get_or ys (a + x * n + y) (blank k) ≡ get_or xs (a + x * n + y) (blank k) = ap (λ z. get_or z (a + x * n + y) (blank k)) ys_is ∙ getD_over_past new a xs (x * n) (a + x * n + y) (blank k) (omega arith) (omega arith) in
-        let at_row : (x * n + y) / n ≡ x = div_mul_add x n y l in
-        let at_column : (x * n + y) % n ≡ y = mod_mul_add x n y l in
+        let at_row : (x * n + y) / n ≡ x = div-mul-add x n y l in
+        let at_column : (x * n + y) % n ≡ y = mod-mul-add x n y l in
         cc in
         zs_is ∙ over_join new (λ y. raised k t (row y) (get_or ys (a + x * n + y) (blank k))) a (a + x * n) (x * n) n xs ys ys_is refl (omega arith) each ∙ ap (λ p. over new a p xs) (sym (row_end x n))
 

@@ -3,7 +3,7 @@ use Rattle.std.specs.Prelude.{◌≡◌, ℕ, ◌<◌, ◌≤◌, ◌≢◌, Ok,
 use mathlib.Core.HLevel.{is_prop→PathP}
 use Rattle.std.proofs.Common.{arith}
 use Rattle.std.proofs.Math.Bridge.{le_prop}
-use Rattle.std.proofs.lemmas.Bool.{cond_both, ltb_true, ltb_false}
+use Rattle.std.proofs.lemmas.Bool.{cond_both, ltb-true, ltb-false}
 use Rattle.std.proofs.lemmas.Bool.Decides.{nat_tests}
 use Rattle.semiring.specs.Entries.{Exact, ExactProduct}
 use Rattle.kinds.specs.Limits.{pulses_limit, pulses_none}
@@ -26,8 +26,8 @@ held_exact : (v : Amount) → ExactProduct values value v (held v)
 held_exact none = refl
 held_exact (of n) =
     cond_both (nat_lt pulses_limit n) (Err refused) (Ok (made n)) (ExactProduct values value (of n))
-    (λ t. past_limit_not_held n (ltb_true pulses_limit n t))
-    (λ t. up_to_limit_held n (ltb_false pulses_limit n t))
+    (λ t. past_limit_not_held n (ltb-true pulses_limit n t))
+    (λ t. up_to_limit_held n (ltb-false pulses_limit n t))
 
 pub exact : Exact entries
 exact =

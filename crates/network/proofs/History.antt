@@ -1,6 +1,6 @@
 -- Every history keeps what is guaranteed.
 use Rattle.std.proofs.Common.{◌≡◌, ℕ, ◌+◌, ◌*◌, ◌<◌, ◌≤◌, Bool, true, false, cond, ◌&&◌, eqb, ◌↔◌, length, Some, None, Option, Result, sym, refl, ap, ◌∙◌, subst, arith}
-use Rattle.std.proofs.lemmas.Bool.{and_from, and_parts, cond_true, eq_eqb, eqb_true}
+use Rattle.std.proofs.lemmas.Bool.{and_from, and_parts, cond-true, eq-eqb, eqb-true}
 use Rattle.semiring.specs.Algebra.{Semiring, HasStar, Laws}
 use Rattle.semiring.specs.Entries.{Entries, Exact}
 use Rattle.closure.specs.Cells.{at, values}
@@ -31,13 +31,13 @@ module _ {s : Semiring} {E C F : Type 0} (k : Entries s E C F) where
 
 module _ {s : Semiring} {E C F : Type 0} (k : Entries s E C F) (l : Laws s) (exact : Exact k) where
   with_edge_here : (i j : ℕ) (σ : E) (edges : ℕ → ℕ → E) → with_edge k i j σ edges i j ≡ k.sum (edges i j) σ
-  with_edge_here i j σ edges = cond_true (eqb i i && eqb j j) (k.sum (edges i j) σ) (edges i j) (and_from (eqb i i) (eqb j j) (eq_eqb i i refl) (eq_eqb j j refl))
+  with_edge_here i j σ edges = cond-true (eqb i i && eqb j j) (k.sum (edges i j) σ) (edges i j) (and_from (eqb i i) (eqb j j) (eq-eqb i i refl) (eq-eqb j j refl))
 
   with_edge_elsewhere : (i j : ℕ) (σ : E) (edges : ℕ → ℕ → E) (x y : ℕ) → ¬ ((x ≡ i) × (y ≡ j)) → with_edge k i j σ edges x y ≡ edges x y
   with_edge_elsewhere i j σ edges x y other = kept (eqb x i && eqb y j) refl
     where
       kept : (b : Bool) → (eqb x i && eqb y j) ≡ b → cond b (k.sum (edges x y) σ) (edges x y) ≡ edges x y
-      kept true is = let both = and_parts (eqb x i) (eqb y j) is in absurd (other (eqb_true x i both.0, eqb_true y j both.1))
+      kept true is = let both = and_parts (eqb x i) (eqb y j) is in absurd (other (eqb-true x i both.0, eqb-true y j both.1))
       kept false is = refl
 
   edge_summed : (n i j : ℕ) (σ : E) (edges : ℕ → ℕ → E) → EdgeSummed s n i j (k.value σ) (values k edges) (values k (with_edge k i j σ edges))

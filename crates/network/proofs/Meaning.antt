@@ -1,9 +1,9 @@
 -- The cells that an accepted call leaves mean what it promises.
-use Rattle.std.proofs.Common.{◌≡◌, ℕ, ◌+◌, ◌*◌, ◌/◌, ◌%◌, ◌<◌, ◌≤◌, true, false, cond, eqb, ◌≢◌, List, length, get_or, drop, set, refl, ap, ◌∙◌, zero_add, arith}
+use Rattle.std.proofs.Common.{◌≡◌, ℕ, ◌+◌, ◌*◌, ◌/◌, ◌%◌, ◌<◌, ◌≤◌, true, false, cond, eqb, ◌≢◌, List, length, get_or, drop, set, refl, ap, ◌∙◌, zero-add, arith}
 use Rattle.std.specs.Result.{result_unwrap_or}
-use Rattle.std.proofs.lemmas.Nat.{div_mul_add, mod_mul_add}
-use Rattle.std.proofs.lemmas.List.{length_set, get_or_set_same, get_or_set_other, drop_set_lt}
-use Rattle.std.proofs.lemmas.Bool.{eq_eqb, ne_eqb}
+use Rattle.std.proofs.lemmas.Nat.{div-mul-add, mod-mul-add}
+use Rattle.std.proofs.lemmas.List.{length-set, get_or-set_same, get_or-set_other, drop-set-lt}
+use Rattle.std.proofs.lemmas.Bool.{eq-eqb, ne_eqb}
 use Rattle.semiring.specs.Algebra.{Semiring, Laws}
 use Rattle.semiring.specs.Entries.{Entries, Exact}
 use Rattle.closure.specs.Cells.{over, blank, at, times}
@@ -34,7 +34,7 @@ module _ {A : Type 0} (f : ℕ → A) (z : A) (n e : ℕ) (v : A) (xs : List A) 
   wiped_long = length_over (λ _. z) (n * n + n * n) closed (n + n) (omega (arith, closed_long)) ∙ closed_long
 
   pub after_long : length after ≡ length xs
-  after_long = length_set wiped e v ∙ wiped_long
+  after_long = length-set wiped e v ∙ wiped_long
 
   pub edge_before : (p : ℕ) → p < n * n → get_or wiped p d ≡ get_or xs p d
   edge_before p h =
@@ -42,25 +42,25 @@ module _ {A : Type 0} (f : ℕ → A) (z : A) (n e : ℕ) (v : A) (xs : List A) 
       ∙ getD_over_below f (n * n) xs (n * n) p d h (omega arith)
 
   pub edge_after : get_or after e d ≡ v
-  edge_after = get_or_set_same wiped e v d (omega (arith, wiped_long))
+  edge_after = get_or-set_same wiped e v d (omega (arith, wiped_long))
 
   pub other_edge_after : (p : ℕ) → p < n * n → p ≢ e → get_or after p d ≡ get_or xs p d
-  other_edge_after p h ne = get_or_set_other wiped e p v d ne ∙ edge_before p h
+  other_edge_after p h ne = get_or-set_other wiped e p v d ne ∙ edge_before p h
 
   pub closure_after : (p : ℕ) → p < n * n → get_or after (n * n + p) d ≡ f p
   closure_after p h =
-      get_or_set_other wiped e (n * n + p) v d (omega arith)
+      get_or-set_other wiped e (n * n + p) v d (omega arith)
       ∙ getD_over_below (λ _. z) (n * n + n * n) closed (n + n) (n * n + p) d (omega arith) (omega (arith, closed_long))
       ∙ getD_over_in f (n * n) xs (n * n) p (n * n + p) d h (omega arith) refl
 
   pub scratch_after : (p : ℕ) → p < n + n → get_or after (n * n + n * n + p) d ≡ z
   scratch_after p h =
-      get_or_set_other wiped e (n * n + n * n + p) v d (omega arith)
+      get_or-set_other wiped e (n * n + n * n + p) v d (omega arith)
       ∙ getD_over_in (λ _. z) (n * n + n * n) closed (n + n) p (n * n + n * n + p) d h (omega (arith, closed_long)) refl
 
   pub beyond_after : drop (needed n) after ≡ drop (needed n) xs
   beyond_after =
-      drop_set_lt (needed n) wiped e v (omega arith)
+      drop-set-lt (needed n) wiped e v (omega arith)
       ∙ drop_over (λ _. z) (n * n + n * n) (n + n) (needed n) closed (omega arith) (omega (arith, closed_long))
       ∙ drop_over f (n * n) (n * n) (needed n) xs (omega arith) (omega arith)
 
@@ -72,13 +72,13 @@ module _ {s : Semiring} {Entry Cell Fault : Type 0} (k : Entries s Entry Cell Fa
   cleared_long = length_over (λ _. blank k) 0 xs (needed n) (omega arith)
 
   cleared_blank : (p : ℕ) → p < needed n → get_or cleared p (blank k) ≡ blank k
-  cleared_blank p h = getD_over_in (λ _. blank k) 0 xs (needed n) p p (blank k) h (omega arith) (zero_add p)
+  cleared_blank p h = getD_over_in (λ _. blank k) 0 xs (needed n) p p (blank k) h (omega arith) (zero-add p)
 
   closure_opened : (i j : ℕ) → i < n → j < n → closure_of k n (opened k n xs) i j ≡ cond (eqb i j) k.unit k.none
   closure_opened i j h l =
       let fits = place_fits i j n h l in
-      let row = div_mul_add i n j l in
-      let column = mod_mul_add i n j l in
+      let row = div-mul-add i n j l in
+      let column = mod-mul-add i n j l in
       let cell = getD_over_in (identity_cell k n) (n * n) cleared (n * n) (i * n + j) (n * n + (i * n + j)) (blank k) fits (omega (arith, cleared_long)) refl in
       ap k.read cell ∙ exact.read_write (cond (eqb ((i * n + j) / n) ((i * n + j) % n)) k.unit k.none) ∙ (cc)
 
@@ -92,7 +92,7 @@ module _ {s : Semiring} {Entry Cell Fault : Type 0} (k : Entries s Entry Cell Fa
         edges_none = λ i j h l.
             let fits = place_fits i j n h l in
             ap k.read (getD_over_below (identity_cell k n) (n * n) cleared (n * n) (i * n + j) (blank k) fits (omega (arith, cleared_long)) ∙ cleared_blank (i * n + j) (omega arith)) ∙ exact.read_write k.none;
-        diagonal_unit = λ i h. closure_opened i i h h ∙ ap (λ b. cond b k.unit k.none) (eq_eqb i i refl);
+        diagonal_unit = λ i h. closure_opened i i h h ∙ ap (λ b. cond b k.unit k.none) (eq-eqb i i refl);
         elsewhere_none = λ i j h l ne. closure_opened i j h l ∙ ap (λ b. cond b k.unit k.none) (ne_eqb i j ne);
         tidy = record {
           scratch_none = λ p h. getD_over_past (identity_cell k n) (n * n) cleared (n * n) (n * n + n * n + p) (blank k) (omega arith) (omega (arith, cleared_long)) ∙ cleared_blank (n * n + n * n + p) (omega arith);
@@ -120,8 +120,8 @@ module _ {s : Semiring} {Entry Cell Fault : Type 0} (k : Entries s Entry Cell Fa
           node_count_kept = refl;
           closure_inserted = λ x y h t.
               let in_table = place_fits x y n h t in
-              let row = div_mul_add x n y t in
-              let column_is = mod_mul_add x n y t in
+              let row = div-mul-add x n y t in
+              let column_is = mod-mul-add x n y t in
               let cell = closure_after f (blank k) n e v xs room fits (blank k) (x * n + y) in_table in
               let raised_is : f (x * n + y) ≡ raised k (times k (column x) m) (closure_of k n xs j y) (get_or xs (n * n + (x * n + y)) (blank k)) = cc in
               ap k.read (cell ∙ raised_is) ∙ read_raised k l exact (times k (column x) m) (closure_of k n xs j y) (get_or xs (n * n + (x * n + y)) (blank k));

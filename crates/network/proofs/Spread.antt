@@ -1,5 +1,5 @@
 -- A column and a row of the closure, gathered in the scratch, and the pass by them.
-use Rattle.std.proofs.Common.{◌≡◌, ℕ, ◌+◌, ◌*◌, ◌/◌, ◌%◌, ◌<◌, ◌≤◌, List, length, get_or, refl, ap, ◌∙◌, mul_one, arith}
+use Rattle.std.proofs.Common.{◌≡◌, ℕ, ◌+◌, ◌*◌, ◌/◌, ◌%◌, ◌<◌, ◌≤◌, List, length, get_or, refl, ap, ◌∙◌, mul-one, arith}
 use Rattle.std.proofs.lemmas.Nat.{div_below, mod_below}
 use Rattle.semiring.specs.Algebra.{Semiring}
 use Rattle.semiring.specs.Entries.{Entries}
@@ -43,7 +43,7 @@ module _ {s : Semiring} {Entry Cell Fault : Type 0} (k : Entries s Entry Cell Fa
       let fits = place_fits j y n j_in h in
       ap (λ l. at k l (n * n + n * n + n + y)) zs_is
       ∙ ap k.read (getD_over_in (λ y. get_or ys (n * n + j * n + y * 1) (blank k)) (n * n + n * n + n) ys n y (n * n + n * n + n + y) (blank k) h (omega (arith, ys_long)) refl)
-      ∙ ap (at k ys) (let e : n * n + j * n + y * 1 ≡ n * n + (j * n + y) = omega (arith, mul_one y) in e)
+      ∙ ap (at k ys) (let e : n * n + j * n + y * 1 ≡ n * n + (j * n + y) = omega (arith, mul-one y) in e)
       ∙ ap k.read (get_d_kept (n * n + n * n) (n + n) xs ys (n * n + (j * n + y)) (blank k) ys_kept (omega arith))
 
   -- a pass by the gathered lines, and the scratch cleared, is a pass by the closure's own

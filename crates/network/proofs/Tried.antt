@@ -1,6 +1,6 @@
 -- What the refusal of an opening or an insertion, or that there is none, says of the network and of the values.
 use Rattle.std.proofs.Common.{◌≡◌, ℕ, ◌<◌, ◌≤◌, Bool, true, false, ◌&&◌, ltb, leb, length, Some, None, Option, sym, refl, ap, ◌∙◌, subst, arith}
-use Rattle.std.proofs.lemmas.Bool.{and_parts, leb_true, ltb_true}
+use Rattle.std.proofs.lemmas.Bool.{and_parts, leb-true, ltb-true}
 use Rattle.semiring.specs.Algebra.{Semiring, IsStar, HasStar, Laws}
 use Rattle.semiring.specs.Entries.{Entries, Exact}
 use Rattle.closure.specs.Cells.{values}
@@ -41,7 +41,7 @@ module _ {s : Semiring} {E C F : Type 0} (k : Entries s E C F) (exact : Exact k)
   open_fits n v = fits (leb 1 n && leb n max_nodes) (leb (needed n) (length v.cells)) refl
     where
       fits : (counted long : Bool) → leb (needed n) (length v.cells) ≡ long → either (refused_unless counted (plain {F = F} network 1)) (refused_unless long (plain network 2)) ≡ None → needed n ≤ length v.cells
-      fits true true is h = leb_true _ _ is
+      fits true true is h = leb-true _ _ is
       fits true false is h = some_not_none _ _ refl h
       fits false long is h = some_not_none _ _ refl h
 
@@ -71,10 +71,10 @@ module _ {s : Semiring} {E C F : Type 0} (k : Entries s E C F) (exact : Exact k)
     after_checks true true true false room pair o h = refused _ (omega arith)
     after_checks true true true true room pair None (steps_accepted q star extended) =
         let both = and_parts (ltb i v.n) (ltb j v.n) pair in
-        accepted (ltb_true _ _ both.0) (ltb_true _ _ both.1) (leb_true _ _ room) q star extended
+        accepted (ltb-true _ _ both.0) (ltb-true _ _ both.1) (leb-true _ _ room) q star extended
     after_checks true true true true room pair (Some r) (steps_cyclic w no_star) =
         let both = and_parts (ltb i v.n) (ltb j v.n) pair in
-        cyclic (ltb_true _ _ both.0) (ltb_true _ _ both.1) w no_star
+        cyclic (ltb-true _ _ both.0) (ltb-true _ _ both.1) w no_star
     after_checks true true true true room pair (Some r) (overflowing w) = refused _ (omega arith)
 
     pub tried : Tried (insert_refusal k i j σ v)

@@ -9,16 +9,16 @@ use Rattle.network.specs.State.{closure_in, edge_in, state}
 use Rattle.network.proofs.History.{carried_on, every_history}
 use Rattle.network.proofs.Network.perform.Goals as goal
 
-pub returns_in_Open : goal.returns_in_Open
-returns_in_Open g c =
+pub returns-in-Open : goal.returns-in-Open
+returns-in-Open g c =
     let k = g.S.Semiring.entries in
     let v = state c.args.self.now in
-    let n = c.in_Open.n in
+    let n = c.in-Open.n in
     let answer_is : answer c.open.result ≡ outcome (open_refusal k n v) tt = c.open.ensures.answered in
     let made : state c.open.new.self ≡ after_open k n v = c.open.ensures.state_after in
-    let left = made ∙ sym (ap (λ z. after k z v) c.in_Open.is) in
+    let left = made ∙ sym (ap (λ z. after k z v) c.in-Open.is) in
     record {
-      answered = c.accepted.ensures ∙ ap (map_ok (λ _. None)) answer_is ∙ map_ok_outcome (λ _. None) (open_refusal k n v) tt ∙ sym (ap (λ z. reply k z v) c.in_Open.is);
+      answered = c.accepted.ensures ∙ ap (map_ok (λ _. None)) answer_is ∙ map_ok_outcome (λ _. None) (open_refusal k n v) tt ∙ sym (ap (λ z. reply k z v) c.in-Open.is);
       state_after = left;
       history_carried_on = carried_on k c.args.call v (state c.open.new.self) left;
       every_history_guaranteed = every_history k g.met.S.Semiring.laws g.met.S.Semiring.exact;
@@ -26,18 +26,18 @@ returns_in_Open g c =
       cells_lent = c.open.ensures.cells_lent;
     }
 
-pub returns_in_Insert : goal.returns_in_Insert
-returns_in_Insert g c =
+pub returns-in-Insert : goal.returns-in-Insert
+returns-in-Insert g c =
     let k = g.S.Semiring.entries in
     let v = state c.args.self.now in
-    let i = c.in_Insert.i in
-    let j = c.in_Insert.j in
-    let edge = c.in_Insert.edge in
+    let i = c.in-Insert.i in
+    let j = c.in-Insert.j in
+    let edge = c.in-Insert.edge in
     let answer_is : answer c.insert.result ≡ outcome (insert_refusal k i j edge v) tt = c.insert.ensures.answered in
     let made : state c.insert.new.self ≡ after_insert k i j edge v = c.insert.ensures.state_after in
-    let left = made ∙ sym (ap (λ z. after k z v) c.in_Insert.is) in
+    let left = made ∙ sym (ap (λ z. after k z v) c.in-Insert.is) in
     record {
-      answered = c.accepted_in_Insert.ensures ∙ ap (map_ok (λ _. None)) answer_is ∙ map_ok_outcome (λ _. None) (insert_refusal k i j edge v) tt ∙ sym (ap (λ z. reply k z v) c.in_Insert.is);
+      answered = c.accepted-in-Insert.ensures ∙ ap (map_ok (λ _. None)) answer_is ∙ map_ok_outcome (λ _. None) (insert_refusal k i j edge v) tt ∙ sym (ap (λ z. reply k z v) c.in-Insert.is);
       state_after = left;
       history_carried_on = carried_on k c.args.call v (state c.insert.new.self) left;
       every_history_guaranteed = every_history k g.met.S.Semiring.laws g.met.S.Semiring.exact;
@@ -45,16 +45,16 @@ returns_in_Insert g c =
       cells_lent = c.insert.ensures.cells_lent;
     }
 
-pub returns_in_Edge : goal.returns_in_Edge
-returns_in_Edge g c =
+pub returns-in-Edge : goal.returns-in-Edge
+returns-in-Edge g c =
     let k = g.S.Semiring.entries in
     let v = state c.args.self.now in
-    let i = c.in_Edge.i in
-    let j = c.in_Edge.j in
+    let i = c.in-Edge.i in
+    let j = c.in-Edge.j in
     let answer_is : answer c.edge.result ≡ outcome (read_refusal k i j v) (edge_in k v i j) = c.edge.ensures.edge_or_refusal in
-    let left = sym (ap (λ z. after k z v) c.in_Edge.is) in
+    let left = sym (ap (λ z. after k z v) c.in-Edge.is) in
     record {
-      answered = c.read.ensures ∙ ap (map_ok Some) answer_is ∙ map_ok_outcome Some (read_refusal k i j v) (edge_in k v i j) ∙ sym (ap (λ z. reply k z v) c.in_Edge.is);
+      answered = c.read.ensures ∙ ap (map_ok Some) answer_is ∙ map_ok_outcome Some (read_refusal k i j v) (edge_in k v i j) ∙ sym (ap (λ z. reply k z v) c.in-Edge.is);
       state_after = left;
       history_carried_on = carried_on k c.args.call v v left;
       every_history_guaranteed = every_history k g.met.S.Semiring.laws g.met.S.Semiring.exact;
@@ -62,16 +62,16 @@ returns_in_Edge g c =
       cells_lent = refl;
     }
 
-pub returns_in_Closure : goal.returns_in_Closure
-returns_in_Closure g c =
+pub returns-in-Closure : goal.returns-in-Closure
+returns-in-Closure g c =
     let k = g.S.Semiring.entries in
     let v = state c.args.self.now in
-    let i = c.in_Closure.i in
-    let j = c.in_Closure.j in
+    let i = c.in-Closure.i in
+    let j = c.in-Closure.j in
     let answer_is : answer c.closure.result ≡ outcome (read_refusal k i j v) (closure_in k v i j) = c.closure.ensures.closure_or_refusal in
-    let left = sym (ap (λ z. after k z v) c.in_Closure.is) in
+    let left = sym (ap (λ z. after k z v) c.in-Closure.is) in
     record {
-      answered = c.read_in_Closure.ensures ∙ ap (map_ok Some) answer_is ∙ map_ok_outcome Some (read_refusal k i j v) (closure_in k v i j) ∙ sym (ap (λ z. reply k z v) c.in_Closure.is);
+      answered = c.read-in-Closure.ensures ∙ ap (map_ok Some) answer_is ∙ map_ok_outcome Some (read_refusal k i j v) (closure_in k v i j) ∙ sym (ap (λ z. reply k z v) c.in-Closure.is);
       state_after = left;
       history_carried_on = carried_on k c.args.call v v left;
       every_history_guaranteed = every_history k g.met.S.Semiring.laws g.met.S.Semiring.exact;

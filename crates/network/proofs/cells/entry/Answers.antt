@@ -6,4 +6,4 @@ use Rattle.network.proofs.cells.entry.Goals as goal
 pub returns : goal.returns
 returns g c =
     let k = g.S.Semiring.entries in
-    c.read.ensures ∙ ap k.read (get_or_read c.args.cells.now c.args.p c.index_cells_p.result (omega arith) c.index_cells_p.is (blank k))
+    c.read.ensures ∙ ap k.read (get_or_read c.args.cells.now c.args.p c.index-cells-p.result (omega arith) c.index-cells-p.is (blank k))

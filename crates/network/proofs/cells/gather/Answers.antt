@@ -4,16 +4,16 @@ use Rattle.closure.specs.Cells.{blank}
 use Rattle.closure.proofs.Over.{over_none, over_more, getD_over_below}
 use Rattle.network.proofs.cells.gather.Goals as goal
 
-pub loop_i_init : goal.loop_i_init
-loop_i_init g c = sym (over_none (λ i. get_or c.args.cells.now (c.args.a + i * c.args.by) (blank g.S.Semiring.entries)) c.args.b c.args.cells.now)
+pub loop-i-init : goal.loop-i-init
+loop-i-init g c = sym (over_none (λ i. get_or c.args.cells.now (c.args.a + i * c.args.by) (blank g.S.Semiring.entries)) c.args.b c.args.cells.now)
 
-pub loop_i_preserved : goal.loop_i_preserved
-loop_i_preserved g c =
+pub loop-i-preserved : goal.loop-i-preserved
+loop-i-preserved g c =
     let k = g.S.Semiring.entries in
-    let i = c.loop_i.i in
+    let i = c.loop-i.i in
     let xs = c.args.cells.now in
     let from = c.args.a + i * c.args.by in
     let new = λ (i : Prim.Native.Nat.ℕ). get_or xs (c.args.a + i * c.args.by) (blank k) in
     let near : from < c.args.b = c.requires.1.0 i (omega arith) in
-    over_more new c.args.b xs c.loop_i.cells i (c.args.b + i) c.index_cells_a.result c.loop_i.invariant refl (omega arith)
-    (get_or_read c.loop_i.cells from c.index_cells_a.result (omega arith) c.index_cells_a.is (blank k) ∙ ap (λ l. get_or l from (blank k)) c.loop_i.invariant ∙ getD_over_below new c.args.b xs i from (blank k) near (omega arith))
+    over_more new c.args.b xs c.loop-i.cells i (c.args.b + i) c.index-cells-a.result c.loop-i.invariant refl (omega arith)
+    (get_or_read c.loop-i.cells from c.index-cells-a.result (omega arith) c.index-cells-a.is (blank k) ∙ ap (λ l. get_or l from (blank k)) c.loop-i.invariant ∙ getD_over_below new c.args.b xs i from (blank k) near (omega arith))

@@ -4,8 +4,8 @@ use Rattle.closure.specs.Passes.{passed_cell}
 use Rattle.network.proofs.insertion.pass.Given as goal
 
 -- the rows above x are passed
-abbrev pub invariant_loop_x : goal.invariant_loop_x
-invariant_loop_x g l =
+abbrev pub invariant-loop-x : goal.invariant-loop-x
+invariant-loop-x g l =
     let k = g.S.Semiring.entries in
     let xs = l.initial.cells in
     l.cells ≡ over (passed_cell k (λ x. at k xs (l.b + x)) l.m (λ y. at k xs (l.b + l.n + y)) l.n l.a xs) l.a (l.x * l.n) xs

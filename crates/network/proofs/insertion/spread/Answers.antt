@@ -1,20 +1,20 @@
-use Rattle.std.proofs.Common.{mul_one, arith}
+use Rattle.std.proofs.Common.{mul-one, arith}
 use Rattle.closure.specs.Limits.{max_nodes}
 use Rattle.closure.proofs.Rows.{place_fits, square_small}
 use Rattle.network.proofs.Spread.{spread_is}
 use Rattle.network.proofs.insertion.spread.Goals as goal
 
-pub gather_requires : goal.gather_requires
-gather_requires g c =
+pub gather-requires : goal.gather-requires
+gather-requires g c =
     let small = square_small c.args.n max_nodes (omega arith) in
     (omega arith, ((λ x h. let fits = place_fits x c.args.i c.args.n h (omega arith) in omega arith), omega arith))
 
-pub gather_requires_2 : goal.gather_requires_2
-gather_requires_2 g c =
-    (omega arith, ((λ y h. let fits = place_fits c.args.j y c.args.n (omega arith) h in omega (arith, mul_one y)), omega arith))
+pub gather-requires-2 : goal.gather-requires-2
+gather-requires-2 g c =
+    (omega arith, ((λ y h. let fits = place_fits c.args.j y c.args.n (omega arith) h in omega (arith, mul-one y)), omega arith))
 
 pub returns : goal.returns
 returns g c =
-    spread_is g.S.Semiring.entries c.args.n c.args.i c.args.j c.args.cells.now c.gather.new.cells c.gather_2.new.cells
-    (omega arith) (omega arith) (omega arith) c.gather.ensures c.gather_2.ensures
+    spread_is g.S.Semiring.entries c.args.n c.args.i c.args.j c.args.cells.now c.gather.new.cells c.gather-2.new.cells
+    (omega arith) (omega arith) (omega arith) c.gather.ensures c.gather-2.ensures
     c.args.m c.pass.new.cells c.clear.new.cells c.pass.ensures c.clear.ensures

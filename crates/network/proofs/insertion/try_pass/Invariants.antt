@@ -5,8 +5,8 @@ use Rattle.closure.specs.Passes.{line_fault}
 use Rattle.network.proofs.insertion.try_pass.Given as goal
 
 -- no row above x was refused
-abbrev pub invariant_loop_x : goal.invariant_loop_x
-invariant_loop_x g l =
+abbrev pub invariant-loop-x : goal.invariant-loop-x
+invariant-loop-x g l =
     let k = g.S.Semiring.entries in
     let t = table_at k l.n l.a l.cells in
     first (line_fault k (λ x. t x l.i) l.m (t l.j) l.n) l.x ≡ None

@@ -4,5 +4,5 @@ use Rattle.closure.specs.Passes.{row_fault}
 use Rattle.network.proofs.insertion.try_row.Given as goal
 
 -- no product was refused so far
-abbrev pub invariant_loop_y : goal.invariant_loop_y
-invariant_loop_y g l = let k = g.S.Semiring.entries in row_fault k l.t (λ y. at k l.cells (l.b + y)) l.y ≡ None
+abbrev pub invariant-loop-y : goal.invariant-loop-y
+invariant-loop-y g l = let k = g.S.Semiring.entries in row_fault k l.t (λ y. at k l.cells (l.b + y)) l.y ≡ None

@@ -10,7 +10,7 @@ pieces_joined : (P : Option (List ℕ) → Type 0) (i j : ℕ) (edge : Option (L
 pieces_joined P i j None h = h
 pieces_joined P i j (Some edge) h = h
 
-pub returns_in_Insert_clause_writes : goal.returns_in_Insert_clause_writes
-returns_in_Insert_clause_writes g c =
-    subst (λ z. DisplaysOnOk g.W.Write.write_str_gives c.args.f.now c.write_in_Insert.result (call_text g.E.Display.output z) c.write_in_Insert.new.self) (sym c.in_Insert.is)
-    (pieces_joined (λ o. DisplaysOnOk g.W.Write.write_str_gives c.args.f.now c.write_in_Insert.result o c.write_in_Insert.new.self) c.in_Insert.i c.in_Insert.j (g.E.Display.output c.in_Insert.edge) c.write_in_Insert.ensures.shows)
+pub returns-in-Insert-clause-writes : goal.returns-in-Insert-clause-writes
+returns-in-Insert-clause-writes g c =
+    subst (λ z. DisplaysOnOk g.W.Write.write_str_gives c.args.f.now c.write-in-Insert.result (call_text g.E.Display.output z) c.write-in-Insert.new.self) (sym c.in-Insert.is)
+    (pieces_joined (λ o. DisplaysOnOk g.W.Write.write_str_gives c.args.f.now c.write-in-Insert.result o c.write-in-Insert.new.self) c.in-Insert.i c.in-Insert.j (g.E.Display.output c.in-Insert.edge) c.write-in-Insert.ensures.shows)
