@@ -1,8 +1,8 @@
 -- The operations on entries of charges are those on amounts, refused exactly past the limit and below zero.
 use Rattle.std.specs.Prelude.{◌≡◌, true, false, ◌≢◌, ℤ, pos, ◌+ℤ◌, Ok, Err, int_lt, refl}
-use mathlib.Core.HLevel.{is_prop→PathP, ×_prop}
+use mathlib.Core.HLevel.{is_prop→PathP}
 use Rattle.std.proofs.Common.{arith}
-use denote.Struct.Props.{≤ℤ_prop}
+use Rattle.std.proofs.Props.{props}
 use Rattle.std.proofs.lemmas.Int.{ints, clamps}
 use Rattle.std.proofs.lemmas.Bool.{cond_both}
 use Rattle.semiring.specs.Entries.{Exact, ExactProduct, ExactStar}
@@ -15,7 +15,7 @@ use Rattle.kinds.specs.ChargeLaws.{up_at_most_unit, star_is_unit, no_star}
 -- two entries of one number are one entry
 pub entry_path : (p q : Charge) → p.number ≡ q.number → p ≡ q
 entry_path p q e =
-    λ i. record { number = e i; bound = is_prop→PathP (λ (j : 𝕀). charge_bound (e j)) (λ j. ×_prop ≤ℤ_prop ≤ℤ_prop) p.bound q.bound i }
+    λ i. record { number = e i; bound = is_prop→PathP (λ (j : 𝕀). charge_bound (e j)) (λ j. hlevel props) p.bound q.bound i }
 
 out_of_range_not_held : (n : ℤ) → up_to charge_limit n ≡ false → (e : Charge) → value e ≢ of n
 out_of_range_not_held n out e is = grind (arith, ints)

@@ -10,7 +10,7 @@ use Rattle.network.proofs.Network.edge.Goals as goal
 
 pub entry-requires : goal.entry-requires
 entry-requires g c =
-    let passed = c.in-ok-check-pair.ensures.passed in
+    let passed = c.in_ok-check_pair.ensures.passed in
     let fits = places_fit c.args.i c.args.j c.args.self.now.n (omega arith) (omega arith) in
     omega arith
 
@@ -20,8 +20,8 @@ returns g c =
     let v = state c.args.self.now in
     let i = c.args.i in
     let j = c.args.j in
-    let passed = c.in-ok-check-pair.ensures.passed in
-    let pair = none_from_ok (answer c.check_pair.result) (read_refusal k i j v) tt tt c.check_pair.ensures.answer (ap answer c.in-ok-check-pair.was) in
+    let passed = c.in_ok-check_pair.ensures.passed in
+    let pair = none_from_ok (answer c.check_pair.result) (read_refusal k i j v) tt tt c.check_pair.ensures.answer (ap answer c.in_ok-check_pair.was) in
     let is : c.entry.result ≡ edge_in k v i j = c.entry.ensures in
     record {
       edge_or_refusal = ap Ok is ∙ sym (ap (λ o. outcome o (edge_in k v i j)) pair);

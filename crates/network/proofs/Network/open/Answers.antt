@@ -11,13 +11,13 @@ use Rattle.network.proofs.History.{carried_on}
 use Rattle.network.proofs.Network.open.Goals as goal
 use Rattle.network.proofs.Tried.{accepted_opens}
 
-pub returns-in-err-check-size : goal.returns-in-err-check-size
-returns-in-err-check-size g c =
+pub returns-in_err-check_size : goal.returns-in_err-check_size
+returns-in_err-check_size g c =
     let k = g.S.Semiring.entries in
     let n = c.args.n in
     let v = state c.args.self.now in
-    let e = err_from_is_err_and c.from-residual.result c.from-residual.ensures.1 in
-    let was = c.in-err-check-size.was ∙ ap Err (sym e.2) in
+    let e = err_from_is_err_and c.from_residual.result c.from_residual.ensures.1 in
+    let was = c.in_err-check_size.was ∙ ap Err (sym e.2) in
     let refused = some_from_err (answer c.check_size.result) (open_refusal k n v) tt (described e.0) c.check_size.ensures.answer (ap answer was) in
     let kept = sym (ap (λ o. unless o (state_with n (opened k n v.cells)) v) refused) in
     record {
@@ -33,7 +33,7 @@ returns g c =
     let k = g.S.Semiring.entries in
     let n = c.args.n in
     let v = state c.args.self.now in
-    let accepted = none_from_ok (answer c.check_size.result) (open_refusal k n v) tt tt c.check_size.ensures.answer (ap answer c.in-ok-check-size.was) in
+    let accepted = none_from_ok (answer c.check_size.result) (open_refusal k n v) tt tt c.check_size.ensures.answer (ap answer c.in_ok-check_size.was) in
     let made : state_with n c.clear_network.new.cells ≡ state_with n (opened k n v.cells) = ap (state_with n) c.clear_network.ensures in
     let left = made ∙ sym (ap (λ o. unless o (state_with n (opened k n v.cells)) v) accepted) in
     record {

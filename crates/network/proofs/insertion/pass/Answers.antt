@@ -12,8 +12,8 @@ loop-x-init g c =
     let new = passed_cell k (λ x. at k xs (c.args.b + x)) c.args.m (λ y. at k xs (c.args.b + c.args.n + y)) c.args.n c.args.a xs in
     sym (ap (λ p. over new c.args.a p xs) (zero-mul c.args.n) ∙ over_none new c.args.a xs)
 
-pub overflow-add-a : goal.overflow-add-a
-overflow-add-a g c = let fits = row_fits c.loop-x.x c.args.n (omega arith) in search rules
+pub overflow_add-a : goal.overflow_add-a
+overflow_add-a g c = let fits = row_fits c.loop-x.x c.args.n (omega arith) in search rules
 
 pub relax-requires : goal.relax-requires
 relax-requires g c = let fits = row_fits c.loop-x.x c.args.n (omega arith) in search rules
@@ -33,8 +33,8 @@ loop-x-preserved g c =
     let fits = row_fits x n (omega arith) in
     let entry_is = ap (λ f. f x) (past_same k new a (x * n) b xs ys c.loop-x.invariant (omega arith) (omega arith)) in
     let row_is = past_same k new a (x * n) (b + n) xs ys c.loop-x.invariant (omega arith) (omega arith) in
-    let t_is : c.unwrap-or-t.result ≡ times k (column x) c.args.m = cc in
-    let t = c.unwrap-or-t.result in
+    let t_is : c.unwrap_or-t.result ≡ times k (column x) c.args.m = cc in
+    let t = c.unwrap_or-t.result in
     pass_row k column c.args.m row n a xs ys c.relax.new.cells x t (omega arith) (omega arith) c.loop-x.invariant t_is
     (c.relax.ensures ∙ ap (λ r. over (λ y. raised k t (r y) (get_or ys (a + x * n + y) (blank k))) (a + x * n) n ys) row_is)
 

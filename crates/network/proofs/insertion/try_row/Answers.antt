@@ -28,5 +28,5 @@ loop-y-preserved g c =
     let k = g.S.Semiring.entries in
     let xs = c.args.cells.now in
     let y = c.loop-y.y in
-    let got : k.product c.args.t (at k xs (c.args.b + y)) ≡ Ok c.in-default.field-0 = cc in
+    let got : k.product c.args.t (at k xs (c.args.b + y)) ≡ Ok c.in_default.field-0 = cc in
     first_next (λ y. failed (k.product c.args.t (at k xs (c.args.b + y)))) y c.loop-y.invariant ∙ ap failed got

@@ -13,4 +13,4 @@ pieces_joined P i j (Some edge) h = h
 pub returns-in-Insert-clause-writes : goal.returns-in-Insert-clause-writes
 returns-in-Insert-clause-writes g c =
     subst (λ z. DisplaysOnOk g.W.Write.write_str_gives c.args.f.now c.write-in-Insert.result (call_text g.E.Display.output z) c.write-in-Insert.new.self) (sym c.in-Insert.is)
-    (pieces_joined (λ o. DisplaysOnOk g.W.Write.write_str_gives c.args.f.now c.write-in-Insert.result o c.write-in-Insert.new.self) c.in-Insert.i c.in-Insert.j (g.E.Display.output c.in-Insert.edge) c.write-in-Insert.ensures.shows)
+    (pieces_joined (λ o. DisplaysOnOk g.W.Write.write_str_gives c.args.f.now c.write-in-Insert.result o c.write-in-Insert.new.self) c.in-Insert.i c.in-Insert.j (g.E.Display.output c.in-Insert.edge) c.write-in-Insert.ensures.writes)
