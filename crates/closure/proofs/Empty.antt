@@ -1,5 +1,5 @@
 -- With no edge, the table that has unit on the diagonal and none elsewhere is continuous.
-use Rattle.std.proofs.Common.{◌≡◌, ℕ, ◌<◌, sym, ap, ◌∙◌}
+use Rattle.std.proofs.Common.{ℕ, ◌<◌}
 use native.Mathlib.Decide.{ℕ_discrete}
 use Rattle.semiring.specs.Algebra.{Semiring, Dioid}
 use Rattle.semiring.proofs.Order.{le_refl, none_le}

@@ -1,5 +1,5 @@
 -- One more edge: the closure with the ways by it, and when there is none.
-use Rattle.std.proofs.Common.{◌≡◌, ℕ, ◌<◌, ◌↔◌, refl}
+use Rattle.std.proofs.Common.{ℕ, ◌<◌, ◌↔◌, refl}
 use Rattle.semiring.specs.Algebra.{Semiring, AtMost, IsStar, HasStar, Laws}
 use Rattle.semiring.proofs.Order.{le_refl, le_trans, plus_left, plus_right, plus_least, under_right, times_left, times_right, times_monotone, within_monotone}
 use Rattle.semiring.proofs.Star.{star_one, star_left, star_absorbs}

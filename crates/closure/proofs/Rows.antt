@@ -1,5 +1,5 @@
 -- One row of a pass, and the places of a table's rows.
-use Rattle.std.proofs.Common.{◌≡◌, ℕ, ◌+◌, ◌*◌, ◌/◌, ◌%◌, ◌<◌, ◌≤◌, true, false, cond, List, length, get_or, Some, None, Ok, Err, Option, Result, sym, refl, ap, ◌∙◌, add_assoc, add-mul, one-mul, arith}
+use Rattle.std.proofs.Common.{◌≡◌, ℕ, ◌+◌, ◌*◌, ◌/◌, ◌%◌, ◌<◌, ◌≤◌, true, false, cond, List, length, get_or, Some, None, Ok, Err, sym, refl, ap, ◌∙◌, add_assoc, add-mul, one-mul, arith}
 use mathlib.Core.Path.{fun_ext}
 use Rattle.std.specs.Result.{result_unwrap_or}
 use Rattle.std.proofs.lemmas.Nat.{div-mul-add, mod-mul-add, mul-le}
@@ -7,7 +7,7 @@ use Rattle.semiring.specs.Algebra.{Semiring, Laws}
 use Rattle.semiring.specs.Entries.{Entries, Exact}
 use Rattle.semiring.proofs.Held.{none_product, same_equal, sum_none}
 use Rattle.closure.specs.Cells.{over, blank, at, table_at, times}
-use Rattle.closure.specs.Outcomes.{first, either, failed}
+use Rattle.closure.specs.Outcomes.{either, failed}
 use Rattle.closure.specs.Passes.{row_fault, raised, line_fault, passed_cell}
 use Rattle.closure.proofs.First.{first_of_none}
 use Rattle.closure.proofs.Over.{over_join, over_itself, getD_over_past}

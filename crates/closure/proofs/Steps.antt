@@ -1,11 +1,11 @@
 -- What the steps of an insertion, accepted or refused, say of the values.
-use Rattle.std.proofs.Common.{◌≡◌, ℕ, ◌<◌, Some, None, Ok, Err, Option, Result, sym, refl, ap, ◌∙◌, subst}
+use Rattle.std.proofs.Common.{◌≡◌, ℕ, Some, None, Ok, Err, Option, Result, sym, refl, ap, ◌∙◌, subst}
 use Rattle.std.specs.Result.{result_unwrap_or}
 use Rattle.semiring.specs.Algebra.{Semiring, IsStar, HasStar}
 use Rattle.semiring.specs.Entries.{Entries, Exact, ExactProduct, ExactStar}
 use Rattle.closure.specs.Cells.{times, values}
 use Rattle.closure.specs.Insertion.{blamed, factor, inserted, insertion_refusal, pass_refusal}
-use Rattle.closure.specs.Outcomes.{and_then, failed, first, map_err}
+use Rattle.closure.specs.Outcomes.{failed}
 use Rattle.closure.specs.Passes.{line_fault, pass_fault, passed, row_fault}
 use Rattle.closure.specs.Refusals.{Refusal, cycle, place, too_large}
 use Rattle.closure.specs.Theory.{Extended}

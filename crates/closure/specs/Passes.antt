@@ -1,5 +1,5 @@
 -- One pass over a table: onto each entry is summed the way by a column, a factor and a row.
-use Rattle.std.specs.Prelude.{ℕ, ◌+◌, ◌*◌, ◌/◌, ◌%◌, cond, List, Option, slice_index_or}
+use Rattle.std.specs.Prelude.{ℕ, ◌+◌, ◌/◌, ◌%◌, cond, List, Option, slice_index_or}
 use Rattle.semiring.specs.Algebra.{Semiring}
 use Rattle.semiring.specs.Entries.{Entries}
 use Rattle.closure.specs.Cells.{blank, times}

@@ -1,5 +1,5 @@
 -- Walks over a table of edges, and the tables that are at least every walk.
-use Rattle.std.specs.Prelude.{◌≡◌, ℕ, ◌<◌}
+use Rattle.std.specs.Prelude.{ℕ, ◌<◌}
 use Rattle.semiring.specs.Algebra.{Semiring, AtMost, within}
 
 -- a value for each pair of nodes

@@ -1,4 +1,6 @@
 // A history of a network: calls made by name, one after the other, and a refusal for a cycle.
+#![tactic(auto)]
+
 use kinds::Charge;
 use network::{Call, Network};
 use semiring::Semiring;

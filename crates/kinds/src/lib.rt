@@ -1,3 +1,5 @@
+#![tactic(auto)]
+
 mod charge;
 mod fault;
 mod pulses;

@@ -1,12 +1,12 @@
 -- Every history keeps what is guaranteed.
-use Rattle.std.proofs.Common.{◌≡◌, ℕ, ◌+◌, ◌*◌, ◌<◌, ◌≤◌, Bool, true, false, cond, ◌&&◌, eqb, ◌↔◌, length, Some, None, Option, Result, sym, refl, ap, ◌∙◌, subst, arith}
+use Rattle.std.proofs.Common.{◌≡◌, ℕ, ◌+◌, ◌*◌, ◌<◌, Bool, true, false, cond, ◌&&◌, eqb, ◌↔◌, length, Some, None, Option, Result, sym, refl, ap, ◌∙◌, subst, arith}
 use Rattle.std.proofs.lemmas.Bool.{and_from, and_parts, cond-true, eq-eqb, eqb-true}
 use Rattle.semiring.specs.Algebra.{Semiring, HasStar, Laws}
 use Rattle.semiring.specs.Entries.{Entries, Exact}
 use Rattle.closure.specs.Cells.{at, values}
 use Rattle.closure.specs.Outcomes.{failed, outcome, unless}
 use Rattle.closure.specs.Refusals.{Refusal}
-use Rattle.closure.specs.Theory.{Empty, EdgeSummed}
+use Rattle.closure.specs.Theory.{EdgeSummed}
 use Rattle.closure.specs.Walks.{Table, Continuous, IsClosure, TransitiveOver}
 use Rattle.closure.proofs.Outcomes.{failed_outcome}
 use Rattle.closure.proofs.Pairs.{place_pair, same_pair}

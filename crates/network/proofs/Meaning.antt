@@ -1,20 +1,20 @@
 -- The cells that an accepted call leaves mean what it promises.
-use Rattle.std.proofs.Common.{◌≡◌, ℕ, ◌+◌, ◌*◌, ◌/◌, ◌%◌, ◌<◌, ◌≤◌, true, false, cond, eqb, ◌≢◌, List, length, get_or, drop, set, refl, ap, ◌∙◌, zero-add, arith}
+use Rattle.std.proofs.Common.{◌≡◌, ℕ, ◌+◌, ◌*◌, ◌/◌, ◌%◌, ◌<◌, ◌≤◌, cond, eqb, ◌≢◌, List, length, get_or, drop, set, refl, ap, ◌∙◌, zero-add, arith}
 use Rattle.std.specs.Result.{result_unwrap_or}
 use Rattle.std.proofs.lemmas.Nat.{div-mul-add, mod-mul-add}
 use Rattle.std.proofs.lemmas.List.{length-set, get_or-set_same, get_or-set_other, drop-set-lt}
 use Rattle.std.proofs.lemmas.Bool.{eq-eqb, ne_eqb}
 use Rattle.semiring.specs.Algebra.{Semiring, Laws}
 use Rattle.semiring.specs.Entries.{Entries, Exact}
-use Rattle.closure.specs.Cells.{over, blank, at, times}
-use Rattle.closure.specs.Insertion.{factor, inserted}
+use Rattle.closure.specs.Cells.{over, blank, times}
+use Rattle.closure.specs.Insertion.{factor}
 use Rattle.closure.specs.Passes.{passed_cell, raised}
 use Rattle.closure.proofs.Over.{length_over, getD_over_below, getD_over_in, getD_over_past, drop_over}
 use Rattle.closure.proofs.Rows.{place_fits, read_raised}
 use Rattle.network.specs.Faults.{needed}
 use Rattle.network.specs.Layout.{edge_of, closure_of, identity_cell, opened, inserted_cells}
 use Rattle.network.specs.State.{state_with}
-use Rattle.network.specs.Meaning.{Tidy, Opened, Inserted}
+use Rattle.network.specs.Meaning.{Opened, Inserted}
 
 -- the closure written by f, the scratch by z, and the cell e of the edges by v
 module _ {A : Type 0} (f : ℕ → A) (z : A) (n e : ℕ) (v : A) (xs : List A) (room : needed n ≤ length xs) (e_in : e < n * n) (d : A) where

@@ -1,5 +1,5 @@
 -- What a network's calls answer, and the state that they leave.
-use Rattle.std.specs.Prelude.{ℕ, List, length, Option, Result}
+use Rattle.std.specs.Prelude.{ℕ, length, Option, Result}
 use Rattle.semiring.specs.Algebra.{Semiring}
 use Rattle.semiring.specs.Entries.{Entries}
 use Rattle.closure.specs.Refusals.{Refusal, network, place, no_edge}

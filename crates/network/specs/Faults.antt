@@ -1,7 +1,7 @@
 -- What each fault of a network says, and the checks that every call puts first.
 use Rattle.std.specs.Prelude.{ℕ, ◌+◌, ◌*◌, Bool, cond, ◌&&◌, Some, None, Option, Result, nat_le, nat_lt}
 use Rattle.closure.specs.Limits.{max_nodes}
-use Rattle.closure.specs.Refusals.{Refusal, network, place, plain, no_edge, described as table_described}
+use Rattle.closure.specs.Refusals.{Refusal, network, plain, no_edge, described as table_described}
 use Rattle.closure.specs.Outcomes.{either, map_err}
 use Rattle.network.specs.declared.fault.NetworkFault.{NetworkFault}
 use Rattle.network.specs.declared.fault.NetworkFault.TheVariants.{NodeCount, TooShort, NotANode, NotAnEdge, Table}

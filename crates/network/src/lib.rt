@@ -1,3 +1,5 @@
+#![tactic(auto)]
+
 ghost use Rattle.std.specs.Prelude.{◌≡◌};
 ghost use Rattle.network.specs.History.{no_edges, Reached};
 ghost use Rattle.network.specs.State.{state, state_with};

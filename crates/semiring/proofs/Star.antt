@@ -1,7 +1,7 @@
 -- What a star absorbs, and which values have one.
-use Rattle.std.proofs.Common.{◌≡◌, ℕ, zero, suc, sym, ap, ◌∙◌}
+use Rattle.std.proofs.Common.{ℕ, zero, suc}
 use Rattle.semiring.specs.Algebra.{Semiring, Dioid, AtMost, IsStar, power, within}
-use Rattle.semiring.proofs.Order.{le_refl, le_trans, times_right, times_monotone, within_monotone, within_unit}
+use Rattle.semiring.proofs.Order.{le_refl, le_trans, times_right, times_monotone, within_monotone}
 
 module _ {s : Semiring} (d : Dioid s) where
   infixl 60 ◌+◌

@@ -1,3 +1,5 @@
+#![tactic(auto)]
+
 ghost use Rattle.std.specs.Prelude.{◌≡◌};
 ghost use Rattle.semiring.specs.Algebra.{Semiring as Values, Laws, SelectiveLaws, DijkstraLaws};
 ghost use Rattle.semiring.specs.Entries.{Entries, Exact};

@@ -1,4 +1,6 @@
 // A network of three cab stands, from nothing to its finished closure, and what it refuses.
+#![tactic(auto)]
+
 use kinds::{KindNumber, Pulses};
 use network::{Network, NetworkFault};
 use std::{fmt, io};

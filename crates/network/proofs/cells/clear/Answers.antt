@@ -1,4 +1,4 @@
-use Rattle.std.proofs.Common.{◌≡◌, ◌+◌, sym, refl, ap, ◌∙◌, arith}
+use Rattle.std.proofs.Common.{◌+◌, sym, refl, ap, ◌∙◌, arith}
 use Rattle.closure.specs.Cells.{blank}
 use Rattle.closure.proofs.Over.{over_none, over_more}
 use Rattle.network.proofs.cells.clear.Goals as goal

@@ -1,5 +1,5 @@
 use Rattle.std.proofs.Common.{◌≡◌, ℕ, ◌+◌, ◌≤◌, false, cond, get_or, sym, refl, ap, ◌∙◌, arith}
-use Rattle.closure.specs.Cells.{over, blank, at, times}
+use Rattle.closure.specs.Cells.{blank, at, times}
 use Rattle.closure.specs.Passes.{raised}
 use Rattle.closure.proofs.Over.{over_none, over_more, getD_over_past}
 use Rattle.closure.proofs.Rows.{none_row_kept}

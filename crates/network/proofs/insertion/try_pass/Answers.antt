@@ -1,7 +1,7 @@
 use Rattle.std.proofs.Common.{◌≡◌, ℕ, Ok, Err, sym, ap, ◌∙◌, arith, rules}
 use Rattle.std.proofs.lemmas.Result.{err_from_is_err_and}
 use Rattle.closure.specs.Cells.{table_at}
-use Rattle.closure.specs.Outcomes.{first, outcome}
+use Rattle.closure.specs.Outcomes.{outcome}
 use Rattle.closure.specs.Passes.{row_fault, line_fault}
 use Rattle.closure.proofs.First.{first_none, first_next, first_here}
 use Rattle.closure.proofs.Outcomes.{none_from_ok, some_from_err}

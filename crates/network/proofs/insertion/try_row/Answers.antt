@@ -1,4 +1,4 @@
-use Rattle.std.proofs.Common.{◌≡◌, ℕ, ◌+◌, Ok, Err, Option, sym, ap, ◌∙◌, arith}
+use Rattle.std.proofs.Common.{◌≡◌, ◌+◌, Ok, Err, sym, ap, ◌∙◌, arith}
 use Rattle.semiring.proofs.Held.{same_equal}
 use Rattle.closure.specs.Cells.{at}
 use Rattle.closure.specs.Outcomes.{failed, outcome}
