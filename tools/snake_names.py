@@ -11,11 +11,12 @@ import glob
 import re
 import sys
 
-NAME = re.compile(r"(?<![\w'-])[A-Za-z_][\w']*(?:-[\w']+)+(?![\w'-])")
+NAME = re.compile(r"(?<![\w'-])(?:[A-Za-z_][\w']*(?:-[\w']+)+|getD_\w+)(?![\w'-])")
 PLAIN = re.compile(r"(?<![\w'-])[A-Za-z_][\w']*(?![\w'-])")
 QUOTED = re.compile(r"`[^`]*`")
 SIGNED = re.compile(r"^\s*(?:(?:abbrev|unfoldable|pub)\s+)*((?:[\w'-]+\s+)+):(?!\s*(?:goal|need)\.)")
 BOUND = re.compile(r"[({]((?:[\w'σ-]+\s+)+):|\blet\s+([\w'-]+)|λ\s+\(?([^.:]*)[.:]|\bas\s+([\w'-]+)")
+ALIAS = re.compile(r"\bas\s+([\w'-]+)")
 CLAUSE = re.compile(r"^\s*[\w'-]+\s+([^=:]*)=(?!\S)")
 LIBRARY = re.compile(r"^(?:ghost )?use Rattle\.std[\w.]*\.\{([^}]*)\}")
 
@@ -53,7 +54,8 @@ def files():
 
 
 def snake(name):
-    return name.replace("-", "_")
+    # the library's getD is get_or now
+    return name.replace("-", "_").replace("getD_", "get_or_")
 
 
 def read_names():
@@ -68,6 +70,7 @@ def read_names():
                 all_hyphened |= set(NAME.findall(code))
                 if path.endswith(".rt"):
                     code_names |= set(PLAIN.findall(code))
+                    own |= {n for text in ALIAS.findall(code) for n in NAME.findall(text)}
                     continue
                 bound = [g for m in BOUND.finditer(code) for g in m.groups() if g]
                 own |= {n for text in SIGNED.findall(code) + CLAUSE.findall(code) + bound for n in NAME.findall(text)}

@@ -42,21 +42,21 @@ module _ {A : Type 0} (f : ℕ → A) (a : ℕ) (xs : List A) where
   unfolding over
   length_over m h = simp (length-append, length-map-range_with_len, length-take, length-drop) (omega arith)
 
-  pub getD_over_below : (m p : ℕ) (d : A) → p < a → a ≤ length xs → get_or (over f a m xs) p d ≡ get_or xs p d
+  pub get_or_over_below : (m p : ℕ) (d : A) → p < a → a ≤ length xs → get_or (over f a m xs) p d ≡ get_or xs p d
   unfolding over
-  getD_over_below m p d h l =
+  get_or_over_below m p d h l =
       get_or_append_left (take a xs) (map f (range_with_len 0 m) ++ drop (a + m) xs) d p (simp length-take (omega arith)) ∙ get_or-take a xs p d h
 
-  pub getD_over_in : (m p q : ℕ) (d : A) → p < m → a ≤ length xs → a + p ≡ q → get_or (over f a m xs) q d ≡ f p
+  pub get_or_over_in : (m p q : ℕ) (d : A) → p < m → a ≤ length xs → a + p ≡ q → get_or (over f a m xs) q d ≡ f p
   unfolding over
-  getD_over_in m p q d h l e =
+  get_or_over_in m p q d h l e =
       get_or-append_right (take a xs) (map f (range_with_len 0 m) ++ drop (a + m) xs) a q d (length-take-le a xs l) (omega arith)
       ∙ get_or_append_left (map f (range_with_len 0 m)) (drop (a + m) xs) d (q - a) (simp length-map-range_with_len (omega arith))
       ∙ get_or-map-range_with_len f 0 m (q - a) p d (omega arith) (omega arith)
 
-  pub getD_over_past : (m p : ℕ) (d : A) → a + m ≤ p → a ≤ length xs → get_or (over f a m xs) p d ≡ get_or xs p d
+  pub get_or_over_past : (m p : ℕ) (d : A) → a + m ≤ p → a ≤ length xs → get_or (over f a m xs) p d ≡ get_or xs p d
   unfolding over
-  getD_over_past m p d h l =
+  get_or_over_past m p d h l =
       get_or-append_right (take a xs) (map f (range_with_len 0 m) ++ drop (a + m) xs) a p d (length-take-le a xs l) (omega arith)
       ∙ get_or-append_right (map f (range_with_len 0 m)) (drop (a + m) xs) m (p - a) d (length-map-range_with_len f 0 m) (omega arith)
       ∙ get_or-drop (a + m) xs (p - a - m) d
@@ -119,10 +119,10 @@ module _ {A : Type 0} where
   kept_apart f a m b l xs ys h r e k =
       let same : (p : ℕ) (d : A) → p < b → get_or (over f a m ys) p d ≡ get_or (over f a m xs) p d = λ p d q.
       ⊎_elim
-      (λ (u : p < a). getD_over_below f a ys m p d u (omega arith) ∙ get_d_kept b l xs ys p d k q ∙ sym (getD_over_below f a xs m p d u (omega arith)))
+      (λ (u : p < a). get_or_over_below f a ys m p d u (omega arith) ∙ get_d_kept b l xs ys p d k q ∙ sym (get_or_over_below f a xs m p d u (omega arith)))
       (λ (u : a ≤ p). ⊎_elim
-      (λ (v : p < a + m). getD_over_in f a ys m (p - a) p d (omega arith) (omega arith) (omega arith) ∙ sym (getD_over_in f a xs m (p - a) p d (omega arith) (omega arith) (omega arith)))
-      (λ (v : a + m ≤ p). getD_over_past f a ys m p d v (omega arith) ∙ get_d_kept b l xs ys p d k q ∙ sym (getD_over_past f a xs m p d v (omega arith)))
+      (λ (v : p < a + m). get_or_over_in f a ys m (p - a) p d (omega arith) (omega arith) (omega arith) ∙ sym (get_or_over_in f a xs m (p - a) p d (omega arith) (omega arith) (omega arith)))
+      (λ (v : a + m ≤ p). get_or_over_past f a ys m p d v (omega arith) ∙ get_d_kept b l xs ys p d k q ∙ sym (get_or_over_past f a xs m p d v (omega arith)))
       (cases_lt p (a + m)))
       (cases_lt p a) in
       let ny : length (take b (over f a m ys)) ≡ b = length-take-le b (over f a m ys) (omega (arith, length_over f a ys m (omega arith))) in

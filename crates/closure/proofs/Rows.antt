@@ -10,7 +10,7 @@ use Rattle.closure.specs.Cells.{over, blank, at, table_at, times}
 use Rattle.closure.specs.Outcomes.{either, failed}
 use Rattle.closure.specs.Passes.{row_fault, raised, line_fault, passed_cell}
 use Rattle.closure.proofs.First.{first_of_none}
-use Rattle.closure.proofs.Over.{over_join, over_itself, getD_over_past}
+use Rattle.closure.proofs.Over.{over_join, over_itself, get_or_over_past}
 
 pub row_end : (i n : ℕ) → (i + 1) * n ≡ i * n + n
 row_end i n = add-mul i 1 n ∙ ap (λ z. i * n + z) (one-mul n)
@@ -75,7 +75,7 @@ module _ {s : Semiring} {Entry Cell Fault : Type 0} (k : Entries s Entry Cell Fa
         let new = passed_cell k column m row n a xs in
         let each : (y : ℕ) → y < n → raised k t (row y) (get_or ys (a + x * n + y) (blank k)) ≡ new (x * n + y) = λ y l.
         let place : a + x * n + y ≡ a + (x * n + y) = omega arith in
-        let old : get_or ys (a + x * n + y) (blank k) ≡ get_or xs (a + x * n + y) (blank k) = ap (λ z. get_or z (a + x * n + y) (blank k)) ys_is ∙ getD_over_past new a xs (x * n) (a + x * n + y) (blank k) (omega arith) (omega arith) in
+        let old : get_or ys (a + x * n + y) (blank k) ≡ get_or xs (a + x * n + y) (blank k) = ap (λ z. get_or z (a + x * n + y) (blank k)) ys_is ∙ get_or_over_past new a xs (x * n) (a + x * n + y) (blank k) (omega arith) (omega arith) in
         let at_row : (x * n + y) / n ≡ x = div-mul-add x n y l in
         let at_column : (x * n + y) % n ≡ y = mod-mul-add x n y l in
         cc in
@@ -83,4 +83,4 @@ module _ {s : Semiring} {Entry Cell Fault : Type 0} (k : Entries s Entry Cell Fa
 
   -- what lies past the part that was written is as it was
   pub past_same : (f : ℕ → Cell) (a m b : ℕ) (xs ys : List Cell) → ys ≡ over f a m xs → a + m ≤ b → a ≤ length xs → ◌≡◌ {A = ℕ → Entry} (λ j. at k ys (b + j)) (λ j. at k xs (b + j))
-  past_same f a m b xs ys h l r = fun_ext (λ j. ap (λ z. at k z (b + j)) h ∙ ap k.read (getD_over_past f a xs m (b + j) (blank k) (omega arith) r))
+  past_same f a m b xs ys h l r = fun_ext (λ j. ap (λ z. at k z (b + j)) h ∙ ap k.read (get_or_over_past f a xs m (b + j) (blank k) (omega arith) r))

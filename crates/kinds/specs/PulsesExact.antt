@@ -20,7 +20,7 @@ past_limit_not_held : (n : ℕ) → pulses_limit < n → (e : Pulses) → value 
 past_limit_not_held n past e is = grind (arith, nat_tests)
 
 up_to_limit_held : (n : ℕ) → n ≤ pulses_limit → value (made n) ≡ of n
-up_to_limit_held n up_to_lem = grind (arith, nat_tests)
+up_to_limit_held n up_to = grind (arith, nat_tests)
 
 held_exact : (v : Amount) → ExactProduct values value v (held v)
 held_exact none = refl

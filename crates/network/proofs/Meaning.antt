@@ -9,7 +9,7 @@ use Rattle.semiring.specs.Entries.{Entries, Exact}
 use Rattle.closure.specs.Cells.{over, blank, times}
 use Rattle.closure.specs.Insertion.{factor}
 use Rattle.closure.specs.Passes.{passed_cell, raised}
-use Rattle.closure.proofs.Over.{length_over, getD_over_below, getD_over_in, getD_over_past, drop_over}
+use Rattle.closure.proofs.Over.{length_over, get_or_over_below, get_or_over_in, get_or_over_past, drop_over}
 use Rattle.closure.proofs.Rows.{place_fits, read_raised}
 use Rattle.network.specs.Faults.{needed}
 use Rattle.network.specs.Layout.{edge_of, closure_of, identity_cell, opened, inserted_cells}
@@ -38,8 +38,8 @@ module _ {A : Type 0} (f : ℕ → A) (z : A) (n e : ℕ) (v : A) (xs : List A) 
 
   pub edge_before : (p : ℕ) → p < n * n → get_or wiped p d ≡ get_or xs p d
   edge_before p h =
-      getD_over_below (λ _. z) (n * n + n * n) closed (n + n) p d (omega arith) (omega (arith, closed_long))
-      ∙ getD_over_below f (n * n) xs (n * n) p d h (omega arith)
+      get_or_over_below (λ _. z) (n * n + n * n) closed (n + n) p d (omega arith) (omega (arith, closed_long))
+      ∙ get_or_over_below f (n * n) xs (n * n) p d h (omega arith)
 
   pub edge_after : get_or after e d ≡ v
   edge_after = get_or-set_same wiped e v d (omega (arith, wiped_long))
@@ -50,13 +50,13 @@ module _ {A : Type 0} (f : ℕ → A) (z : A) (n e : ℕ) (v : A) (xs : List A) 
   pub closure_after : (p : ℕ) → p < n * n → get_or after (n * n + p) d ≡ f p
   closure_after p h =
       get_or-set_other wiped e (n * n + p) v d (omega arith)
-      ∙ getD_over_below (λ _. z) (n * n + n * n) closed (n + n) (n * n + p) d (omega arith) (omega (arith, closed_long))
-      ∙ getD_over_in f (n * n) xs (n * n) p (n * n + p) d h (omega arith) refl
+      ∙ get_or_over_below (λ _. z) (n * n + n * n) closed (n + n) (n * n + p) d (omega arith) (omega (arith, closed_long))
+      ∙ get_or_over_in f (n * n) xs (n * n) p (n * n + p) d h (omega arith) refl
 
   pub scratch_after : (p : ℕ) → p < n + n → get_or after (n * n + n * n + p) d ≡ z
   scratch_after p h =
       get_or-set_other wiped e (n * n + n * n + p) v d (omega arith)
-      ∙ getD_over_in (λ _. z) (n * n + n * n) closed (n + n) p (n * n + n * n + p) d h (omega (arith, closed_long)) refl
+      ∙ get_or_over_in (λ _. z) (n * n + n * n) closed (n + n) p (n * n + n * n + p) d h (omega (arith, closed_long)) refl
 
   pub beyond_after : drop (needed n) after ≡ drop (needed n) xs
   beyond_after =
@@ -72,14 +72,14 @@ module _ {s : Semiring} {Entry Cell Fault : Type 0} (k : Entries s Entry Cell Fa
   cleared_long = length_over (λ _. blank k) 0 xs (needed n) (omega arith)
 
   cleared_blank : (p : ℕ) → p < needed n → get_or cleared p (blank k) ≡ blank k
-  cleared_blank p h = getD_over_in (λ _. blank k) 0 xs (needed n) p p (blank k) h (omega arith) (zero-add p)
+  cleared_blank p h = get_or_over_in (λ _. blank k) 0 xs (needed n) p p (blank k) h (omega arith) (zero-add p)
 
   closure_opened : (i j : ℕ) → i < n → j < n → closure_of k n (opened k n xs) i j ≡ cond (eqb i j) k.unit k.none
   closure_opened i j h l =
       let fits = place_fits i j n h l in
       let row = div-mul-add i n j l in
       let column = mod-mul-add i n j l in
-      let cell = getD_over_in (identity_cell k n) (n * n) cleared (n * n) (i * n + j) (n * n + (i * n + j)) (blank k) fits (omega (arith, cleared_long)) refl in
+      let cell = get_or_over_in (identity_cell k n) (n * n) cleared (n * n) (i * n + j) (n * n + (i * n + j)) (blank k) fits (omega (arith, cleared_long)) refl in
       ap k.read cell ∙ exact.read_write (cond (eqb ((i * n + j) / n) ((i * n + j) % n)) k.unit k.none) ∙ (cc)
 
   pub opened_long : length (opened k n xs) ≡ length xs
@@ -91,11 +91,11 @@ module _ {s : Semiring} {Entry Cell Fault : Type 0} (k : Entries s Entry Cell Fa
         node_count = refl;
         edges_none = λ i j h l.
             let fits = place_fits i j n h l in
-            ap k.read (getD_over_below (identity_cell k n) (n * n) cleared (n * n) (i * n + j) (blank k) fits (omega (arith, cleared_long)) ∙ cleared_blank (i * n + j) (omega arith)) ∙ exact.read_write k.none;
+            ap k.read (get_or_over_below (identity_cell k n) (n * n) cleared (n * n) (i * n + j) (blank k) fits (omega (arith, cleared_long)) ∙ cleared_blank (i * n + j) (omega arith)) ∙ exact.read_write k.none;
         diagonal_unit = λ i h. closure_opened i i h h ∙ ap (λ b. cond b k.unit k.none) (eq-eqb i i refl);
         elsewhere_none = λ i j h l ne. closure_opened i j h l ∙ ap (λ b. cond b k.unit k.none) (ne_eqb i j ne);
         tidy = record {
-          scratch_none = λ p h. getD_over_past (identity_cell k n) (n * n) cleared (n * n) (n * n + n * n + p) (blank k) (omega arith) (omega (arith, cleared_long)) ∙ cleared_blank (n * n + n * n + p) (omega arith);
+          scratch_none = λ p h. get_or_over_past (identity_cell k n) (n * n) cleared (n * n) (n * n + n * n + p) (blank k) (omega arith) (omega (arith, cleared_long)) ∙ cleared_blank (n * n + n * n + p) (omega arith);
           beyond_kept = drop_over (identity_cell k n) (n * n) (n * n) (needed n) cleared (omega arith) (omega (arith, cleared_long)) ∙ drop_over (λ _. blank k) 0 (needed n) (needed n) xs (omega arith) (omega arith);
         };
       }

@@ -5,7 +5,7 @@ use Rattle.semiring.specs.Algebra.{Semiring}
 use Rattle.semiring.specs.Entries.{Entries}
 use Rattle.closure.specs.Cells.{over, blank, at}
 use Rattle.closure.specs.Passes.{passed_cell}
-use Rattle.closure.proofs.Over.{Kept, over_same, over_kept, over_of_kept, kept_within, kept_then, kept_apart, get_d_kept, length_over, getD_over_below, getD_over_in}
+use Rattle.closure.proofs.Over.{Kept, over_same, over_kept, over_of_kept, kept_within, kept_then, kept_apart, get_d_kept, length_over, get_or_over_below, get_or_over_in}
 use Rattle.closure.proofs.Rows.{place_fits}
 use Rattle.network.specs.Faults.{needed}
 use Rattle.network.specs.Layout.{closure_of, scratch_cleared, closure_passed}
@@ -33,16 +33,16 @@ module _ {s : Semiring} {Entry Cell Fault : Type 0} (k : Entries s Entry Cell Fa
   column_at : (x : ℕ) → x < n → at k zs (n * n + n * n + x) ≡ closure_of k n xs x i
   column_at x h =
       ap (λ l. at k l (n * n + n * n + x)) zs_is
-      ∙ ap k.read (getD_over_below (λ y. get_or ys (n * n + j * n + y * 1) (blank k)) (n * n + n * n + n) ys n (n * n + n * n + x) (blank k) (omega arith) (omega (arith, ys_long)))
+      ∙ ap k.read (get_or_over_below (λ y. get_or ys (n * n + j * n + y * 1) (blank k)) (n * n + n * n + n) ys n (n * n + n * n + x) (blank k) (omega arith) (omega (arith, ys_long)))
       ∙ ap (λ l. at k l (n * n + n * n + x)) ys_is
-      ∙ ap k.read (getD_over_in (λ x. get_or xs (n * n + i + x * n) (blank k)) (n * n + n * n) xs n x (n * n + n * n + x) (blank k) h (omega arith) refl)
+      ∙ ap k.read (get_or_over_in (λ x. get_or xs (n * n + i + x * n) (blank k)) (n * n + n * n) xs n x (n * n + n * n + x) (blank k) h (omega arith) refl)
       ∙ ap (at k xs) (let e : n * n + i + x * n ≡ n * n + (x * n + i) = omega arith in e)
 
   row_at : (y : ℕ) → y < n → at k zs (n * n + n * n + n + y) ≡ closure_of k n xs j y
   row_at y h =
       let fits = place_fits j y n j_in h in
       ap (λ l. at k l (n * n + n * n + n + y)) zs_is
-      ∙ ap k.read (getD_over_in (λ y. get_or ys (n * n + j * n + y * 1) (blank k)) (n * n + n * n + n) ys n y (n * n + n * n + n + y) (blank k) h (omega (arith, ys_long)) refl)
+      ∙ ap k.read (get_or_over_in (λ y. get_or ys (n * n + j * n + y * 1) (blank k)) (n * n + n * n + n) ys n y (n * n + n * n + n + y) (blank k) h (omega (arith, ys_long)) refl)
       ∙ ap (at k ys) (let e : n * n + j * n + y * 1 ≡ n * n + (j * n + y) = omega (arith, mul-one y) in e)
       ∙ ap k.read (get_d_kept (n * n + n * n) (n + n) xs ys (n * n + (j * n + y)) (blank k) ys_kept (omega arith))
 

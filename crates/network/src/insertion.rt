@@ -1,7 +1,7 @@
 ghost use Rattle.std.specs.Prelude.{◌≡◌, ℕ, ◌+◌, ◌*◌, ◌<◌, ◌≤◌, length, slice_index_or};
 ghost use Rattle.closure.specs.Cells.{over, blank, at, table_at};
 ghost use Rattle.closure.specs.Outcomes.{outcome, map_err, unless};
-ghost use Rattle.closure.specs.Insertion.{factor as factor-of, insertion_refusal};
+ghost use Rattle.closure.specs.Insertion.{factor as factor_of, insertion_refusal};
 ghost use Rattle.closure.specs.Limits.{max_nodes};
 ghost use Rattle.closure.specs.Passes.{row_fault, raised, pass_fault, passed_cell};
 ghost use Rattle.closure.specs.Refusals.{described};
@@ -81,7 +81,7 @@ fn factor<S: Semiring>(
     edge: S::Entry,
     back: S::Entry,
 ) -> Result<S::Entry, TableFault<S::Fault>>
-    ensures { map_err described result ≡ factor-of S.Semiring.entries i j edge back }
+    ensures { map_err described result ≡ factor_of S.Semiring.entries i j edge back }
 {
     let place = Place { row: i, column: j };
     let lap = match S::product(edge, back) {

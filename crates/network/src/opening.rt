@@ -1,7 +1,7 @@
 ghost use Rattle.std.specs.Prelude.{◌≡◌, ◌+◌, ◌*◌, ◌≤◌, length};
 ghost use Rattle.closure.specs.Cells.{over};
 ghost use Rattle.closure.specs.Limits.{max_nodes};
-ghost use Rattle.network.specs.Faults.{needed as cells-needed};
+ghost use Rattle.network.specs.Faults.{needed as cells_needed};
 ghost use Rattle.network.specs.Layout.{identity_cell, opened};
 
 use crate::cells::{clear, put};
@@ -21,7 +21,7 @@ fn write_identity<S: Semiring>(cells: &mut [S::Cell], a: usize, n: usize)
 
 // The cells of n nodes and no edges.
 pub(crate) fn clear_network<S: Semiring>(cells: &mut [S::Cell], n: usize)
-    requires { (n ≤ max_nodes) × (cells-needed n ≤ length cells.old) }
+    requires { (n ≤ max_nodes) × (cells_needed n ≤ length cells.old) }
     ensures { cells.new ≡ opened S.Semiring.entries n cells.old }
 {
     clear::<S>(cells, 0, needed(n));

@@ -1,7 +1,7 @@
 use Rattle.std.proofs.Common.{◌+◌, ◌*◌, ◌<◌, get_or, sym, refl, ap, ◌∙◌, arith}
 use Rattle.std.proofs.lemmas.List.{get_or_read}
 use Rattle.closure.specs.Cells.{blank}
-use Rattle.closure.proofs.Over.{over_none, over_more, getD_over_below}
+use Rattle.closure.proofs.Over.{over_none, over_more, get_or_over_below}
 use Rattle.network.proofs.cells.gather.Goals as goal
 
 pub loop-i-init : goal.loop-i-init
@@ -16,4 +16,4 @@ loop-i-preserved g c =
     let new = λ (i : Prim.Native.Nat.ℕ). get_or xs (c.args.a + i * c.args.by) (blank k) in
     let near : from < c.args.b = c.requires.1.0 i (omega arith) in
     over_more new c.args.b xs c.loop-i.cells i (c.args.b + i) c.index-cells-a.result c.loop-i.invariant refl (omega arith)
-    (get_or_read c.loop-i.cells from c.index-cells-a.result (omega arith) c.index-cells-a.is (blank k) ∙ ap (λ l. get_or l from (blank k)) c.loop-i.invariant ∙ getD_over_below new c.args.b xs i from (blank k) near (omega arith))
+    (get_or_read c.loop-i.cells from c.index-cells-a.result (omega arith) c.index-cells-a.is (blank k) ∙ ap (λ l. get_or l from (blank k)) c.loop-i.invariant ∙ get_or_over_below new c.args.b xs i from (blank k) near (omega arith))

@@ -1,7 +1,7 @@
 use Rattle.std.proofs.Common.{◌≡◌, ℕ, ◌+◌, ◌≤◌, false, cond, get_or, sym, refl, ap, ◌∙◌, arith}
 use Rattle.closure.specs.Cells.{blank, at, times}
 use Rattle.closure.specs.Passes.{raised}
-use Rattle.closure.proofs.Over.{over_none, over_more, getD_over_past}
+use Rattle.closure.proofs.Over.{over_none, over_more, get_or_over_past}
 use Rattle.closure.proofs.Rows.{none_row_kept}
 use Rattle.network.proofs.insertion.relax.Goals as goal
 
@@ -27,7 +27,7 @@ loop-y-preserved g c =
     let y = c.loop-y.y in
     let row = λ (y : ℕ). at k xs (c.args.b + y) in
     let new = λ (y : ℕ). raised k t (row y) (get_or xs (a + y) (blank k)) in
-    let past : (p : ℕ) → a + y ≤ p → at k ys p ≡ at k xs p = λ p l. ap (λ z. at k z p) c.loop-y.invariant ∙ ap k.read (getD_over_past new a xs y p (blank k) l (omega arith)) in
+    let past : (p : ℕ) → a + y ≤ p → at k ys p ≡ at k xs p = λ p l. ap (λ z. at k z p) c.loop-y.invariant ∙ ap k.read (get_or_over_past new a xs y p (blank k) l (omega arith)) in
     let line = past (c.args.b + y) (omega arith) in
     let old = past (a + y) (omega arith) in
     let sum_is : c.sum-sum.result ≡ k.sum (at k xs (a + y)) (times k t (row y)) = cc in
