@@ -11,7 +11,7 @@ import glob
 import re
 import sys
 
-NAME = re.compile(r"(?<![\w'-])(?:[A-Za-z_][\w']*(?:-[\w']+)+|getD_\w+)(?![\w'-])")
+NAME = re.compile(r"(?<![\w'-])(?:[A-Za-z_][\w']*(?:-[\w']+)+|getD_\w+|get_d_\w+)(?![\w'-])")
 PLAIN = re.compile(r"(?<![\w'-])[A-Za-z_][\w']*(?![\w'-])")
 QUOTED = re.compile(r"`[^`]*`")
 SIGNED = re.compile(r"^\s*(?:(?:abbrev|unfoldable|pub)\s+)*((?:[\w'-]+\s+)+):(?!\s*(?:goal|need)\.)")
@@ -55,7 +55,7 @@ def files():
 
 def snake(name):
     # the library's getD is get_or now
-    return name.replace("-", "_").replace("getD_", "get_or_")
+    return name.replace("-", "_").replace("getD_", "get_or_").replace("get_d_", "get_or_")
 
 
 def read_names():

@@ -111,18 +111,18 @@ module _ {A : Type 0} where
       ap (λ q. drop q (over f a m xs)) (sym (zero-add b)) ∙ (kept_within 0 b a m xs (over f a m xs) (omega arith) (omega arith) (over_kept f a xs m l)).1 ∙ ap (λ q. drop q xs) (zero-add b)
 
   -- a place before the part that changed
-  pub get_d_kept : (b l : ℕ) (xs ys : List A) (p : ℕ) (d : A) → Kept b l xs ys → p < b → get_or ys p d ≡ get_or xs p d
-  get_d_kept b l xs ys p d k h = sym (get_or-take b ys p d h) ∙ ap (λ z. get_or z p d) k.0 ∙ get_or-take b xs p d h
+  pub get_or_kept : (b l : ℕ) (xs ys : List A) (p : ℕ) (d : A) → Kept b l xs ys → p < b → get_or ys p d ≡ get_or xs p d
+  get_or_kept b l xs ys p d k h = sym (get_or-take b ys p d h) ∙ ap (λ z. get_or z p d) k.0 ∙ get_or-take b xs p d h
 
   -- the same writes before that part, in each of two lists that differ there alone
   pub kept_apart : (f : ℕ → A) (a m b l : ℕ) (xs ys : List A) → a + m ≤ b → b + l ≤ length xs → length ys ≡ length xs → Kept b l xs ys → Kept b l (over f a m xs) (over f a m ys)
   kept_apart f a m b l xs ys h r e k =
       let same : (p : ℕ) (d : A) → p < b → get_or (over f a m ys) p d ≡ get_or (over f a m xs) p d = λ p d q.
       ⊎_elim
-      (λ (u : p < a). get_or_over_below f a ys m p d u (omega arith) ∙ get_d_kept b l xs ys p d k q ∙ sym (get_or_over_below f a xs m p d u (omega arith)))
+      (λ (u : p < a). get_or_over_below f a ys m p d u (omega arith) ∙ get_or_kept b l xs ys p d k q ∙ sym (get_or_over_below f a xs m p d u (omega arith)))
       (λ (u : a ≤ p). ⊎_elim
       (λ (v : p < a + m). get_or_over_in f a ys m (p - a) p d (omega arith) (omega arith) (omega arith) ∙ sym (get_or_over_in f a xs m (p - a) p d (omega arith) (omega arith) (omega arith)))
-      (λ (v : a + m ≤ p). get_or_over_past f a ys m p d v (omega arith) ∙ get_d_kept b l xs ys p d k q ∙ sym (get_or_over_past f a xs m p d v (omega arith)))
+      (λ (v : a + m ≤ p). get_or_over_past f a ys m p d v (omega arith) ∙ get_or_kept b l xs ys p d k q ∙ sym (get_or_over_past f a xs m p d v (omega arith)))
       (cases_lt p (a + m)))
       (cases_lt p a) in
       let ny : length (take b (over f a m ys)) ≡ b = length-take-le b (over f a m ys) (omega (arith, length_over f a ys m (omega arith))) in

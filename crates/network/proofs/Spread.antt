@@ -5,7 +5,7 @@ use Rattle.semiring.specs.Algebra.{Semiring}
 use Rattle.semiring.specs.Entries.{Entries}
 use Rattle.closure.specs.Cells.{over, blank, at}
 use Rattle.closure.specs.Passes.{passed_cell}
-use Rattle.closure.proofs.Over.{Kept, over_same, over_kept, over_of_kept, kept_within, kept_then, kept_apart, get_d_kept, length_over, get_or_over_below, get_or_over_in}
+use Rattle.closure.proofs.Over.{Kept, over_same, over_kept, over_of_kept, kept_within, kept_then, kept_apart, get_or_kept, length_over, get_or_over_below, get_or_over_in}
 use Rattle.closure.proofs.Rows.{place_fits}
 use Rattle.network.specs.Faults.{needed}
 use Rattle.network.specs.Layout.{closure_of, scratch_cleared, closure_passed}
@@ -44,7 +44,7 @@ module _ {s : Semiring} {Entry Cell Fault : Type 0} (k : Entries s Entry Cell Fa
       ap (λ l. at k l (n * n + n * n + n + y)) zs_is
       ∙ ap k.read (get_or_over_in (λ y. get_or ys (n * n + j * n + y * 1) (blank k)) (n * n + n * n + n) ys n y (n * n + n * n + n + y) (blank k) h (omega (arith, ys_long)) refl)
       ∙ ap (at k ys) (let e : n * n + j * n + y * 1 ≡ n * n + (j * n + y) = omega (arith, mul-one y) in e)
-      ∙ ap k.read (get_d_kept (n * n + n * n) (n + n) xs ys (n * n + (j * n + y)) (blank k) ys_kept (omega arith))
+      ∙ ap k.read (get_or_kept (n * n + n * n) (n + n) xs ys (n * n + (j * n + y)) (blank k) ys_kept (omega arith))
 
   -- a pass by the gathered lines, and the scratch cleared, is a pass by the closure's own
   pub spread_is : (m : Entry) (ws us : List Cell)
@@ -55,7 +55,7 @@ module _ {s : Semiring} {Entry Cell Fault : Type 0} (k : Entries s Entry Cell Fa
       let was = passed_cell k (λ x. at k zs (n * n + n * n + x)) m (λ y. at k zs (n * n + n * n + n + y)) n (n * n) zs in
       let new = passed_cell k (λ x. closure_of k n xs x i) m (closure_of k n xs j) n (n * n) xs in
       let each : (p : ℕ) → p < n * n → was p ≡ new p = λ p h.
-      let old : get_or zs (n * n + p) (blank k) ≡ get_or xs (n * n + p) (blank k) = get_d_kept (n * n + n * n) (n + n) xs zs (n * n + p) (blank k) zs_kept (omega arith) in
+      let old : get_or zs (n * n + p) (blank k) ≡ get_or xs (n * n + p) (blank k) = get_or_kept (n * n + n * n) (n + n) xs zs (n * n + p) (blank k) zs_kept (omega arith) in
       let a = column_at (p / n) (div_below p n n (omega arith) h) in
       let b = row_at (p % n) (mod_below p n (omega arith)) in
       cc in
