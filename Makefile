@@ -2,8 +2,7 @@
 
 # The main job: the tour, proved, built and run.
 run:
-	rt check tour
-	./target/bin/tour
+	cd crates/tour && rt run
 
 test:
 	.ci/run
