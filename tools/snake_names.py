@@ -1,10 +1,11 @@
 #!/usr/bin/env python3
-"""Brings the repository's own definitions and lemmas to snake case; run at the top of the repository.
+"""Brings the repository's own definitions and lemmas to snake case; run at its top, after the kit's port.py.
 
 A name that .antt files of the repository declare, or that names a function, a variable or a clause of
-its code, joins its words by an underscore afterwards. Names of the library and those that the check
-makes (`loop-x-init`) keep their hyphens. Comments keep their words, but for names in back quotes, and
-so do strings. Names that would fall together are listed, and then nothing is written.
+its code, joins its words by an underscore afterwards, and begins with get_or_ where it began with getD.
+Names of the library and those that the check makes (`loop-x-init`) keep their hyphens. Comments and
+strings keep their words. Names that would fall together, but for those in ALIKE, are listed, and then
+nothing is written.
 """
 
 import glob
@@ -13,8 +14,7 @@ import sys
 
 NAME = re.compile(r"(?<![\w'-])(?:[A-Za-z_][\w']*(?:-[\w']+)+|getD_\w+|get_d_\w+)(?![\w'-])")
 PLAIN = re.compile(r"(?<![\w'-])[A-Za-z_][\w']*(?![\w'-])")
-QUOTED = re.compile(r"`[^`]*`")
-SIGNED = re.compile(r"^\s*(?:(?:abbrev|unfoldable|pub)\s+)*((?:[\w'-]+\s+)+):(?!\s*(?:goal|need)\.)")
+SIGNED = re.compile(r"^\s*(?:(?:abbrev|unfoldable|pub)\s+)*((?:[\w'-]+\s+)+):(?!\s*goal\.)")
 BOUND = re.compile(r"[({]((?:[\w'σ-]+\s+)+):|\blet\s+([\w'-]+)|λ\s+\(?([^.:]*)[.:]|\bas\s+([\w'-]+)")
 ALIAS = re.compile(r"\bas\s+([\w'-]+)")
 CLAUSE = re.compile(r"^\s*[\w'-]+\s+([^=:]*)=(?!\S)")
@@ -31,20 +31,20 @@ ALIKE = set(
 
 
 def parts(line, mark):
-    """The pieces of a line: ('code' | 'string' | 'comment', text)."""
+    """The pieces of a line, each with whether it is code: not a string, nor the comment at its end."""
     out, code, i = [], "", 0
     while i < len(line):
         if line.startswith(mark, i):
-            return out + [("code", code), ("comment", line[i:])]
+            return out + [(True, code), (False, line[i:])]
         if line[i] == '"':
             end = i + 1
             while end < len(line) and line[end] != '"':
                 end += 2 if line[end] == "\\" else 1
-            out += [("code", code), ("string", line[i : end + 1])]
+            out += [(True, code), (False, line[i : end + 1])]
             code, i = "", end + 1
         else:
             code, i = code + line[i], i + 1
-    return out + [("code", code)]
+    return out + [(True, code)]
 
 
 def files():
@@ -65,7 +65,7 @@ def read_names():
         with open(path, encoding="utf-8") as f:
             for line in f:
                 library |= {n.strip() for m in LIBRARY.finditer(line) for n in m.group(1).split(",")}
-                code = "".join(text for kind, text in parts(line, mark) if kind == "code")
+                code = "".join(text for is_code, text in parts(line, mark) if is_code)
                 plain |= set(PLAIN.findall(code))
                 all_hyphened |= set(NAME.findall(code))
                 if path.endswith(".rt"):
@@ -88,16 +88,12 @@ def main():
     def turn(match):
         return snake(match.group(0)) if match.group(0) in own else match.group(0)
 
-    def quoted(match):
-        return NAME.sub(turn, match.group(0))
-
     for path, mark in files():
         with open(path, encoding="utf-8") as f:
             old = f.read()
         new = ""
         for line in old.splitlines(keepends=True):
-            for kind, text in parts(line, mark):
-                new += NAME.sub(turn, text) if kind == "code" else QUOTED.sub(quoted, text) if kind == "comment" else text
+            new += "".join(NAME.sub(turn, text) if is_code else text for is_code, text in parts(line, mark))
         if new != old:
             with open(path, "w", encoding="utf-8") as f:
                 f.write(new)

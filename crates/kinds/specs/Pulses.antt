@@ -1,5 +1,5 @@
 -- Numbers of pulses: none, or a whole number. The sum is the smaller, the product adds.
-use Rattle.std.specs.Prelude.{ℕ, ◌+◌, min, Bool, true, cond, List, Some, None, Ok, Err, codes, decimal, Option, Result, ◌==◌, nat_le, nat_lt}
+use Rattle.std.specs.Prelude.{ℕ, ◌+◌, ◌≤◌, min, Bool, true, cond, List, Some, None, Ok, Err, codes, decimal, Option, Result, ◌==◌, nat_le, nat_lt}
 use Rattle.std.proofs.Common.{arith}
 use Rattle.semiring.specs.Algebra.{Semiring}
 use Rattle.semiring.specs.Entries.{Entries}
@@ -34,9 +34,12 @@ amount n = cond (nat_lt pulses_limit n) none (of n)
 abbrev pub value : Pulses → Amount
 value e = amount e.number
 
+pub made_bound : (n : ℕ) → min n pulses_none ≤ pulses_none
+made_bound n = omega arith
+
 -- the entry of a number: past the limit it is none
 abbrev pub made : ℕ → Pulses
-made n = record { number = min n pulses_none; bound = omega arith }
+made n = record { number = min n pulses_none; bound = made_bound n }
 
 -- how this kind refuses
 abbrev pub refused : KindNumber
@@ -61,7 +64,7 @@ entries =
       sum = λ a b. made (min a.number b.number);
       product = λ a b. held (added (value a) (value b));
       star = λ _. Ok (made 0);
-      same = λ a b. (a.number == b.number);
+      same = λ a b. a.number == b.number;
       is_edge = λ a. edge_amount (value a);
       read = made;
       write = λ a. a.number;

@@ -7,7 +7,6 @@ mod pulses;
 pub use charge::Charge;
 pub use fault::KindNumber;
 pub use pulses::Pulses;
-use semiring::Semiring;
 
 #[cfg(test)]
 mod tests {

@@ -30,7 +30,9 @@ pub(crate) fn clear<S: Semiring>(cells: &mut [S::Cell], a: usize, m: usize)
 
 // Copies n cells, each `by` places after the one before, from a to b.
 pub(crate) fn gather<S: Semiring>(cells: &mut [S::Cell], a: usize, by: usize, b: usize, n: usize)
-    requires { (n * by ≤ 2 ^ 32) × ((((i : ℕ) → i < n → a + i * by < b)) × (b + n ≤ length cells.old)) }
+    requires reach { n * by ≤ 2 ^ 32 }
+    requires apart { (i : ℕ) → i < n → a + i * by < b }
+    requires room { b + n ≤ length cells.old }
     ensures { cells.new ≡ over (λ i. slice_index_or cells.old (a + i * by) (blank S.Semiring.entries)) b n cells.old }
 {
     for i in 0..n {

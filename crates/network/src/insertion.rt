@@ -37,7 +37,10 @@ fn try_pass<S: Semiring>(
     j: usize,
     m: S::Entry,
 ) -> Result<(), S::Fault>
-    requires { (n ≤ max_nodes) × ((i < n) × ((j < n) × (a + n * n ≤ length cells.now))) }
+    requires count { n ≤ max_nodes }
+    requires from_node { i < n }
+    requires to_node { j < n }
+    requires room { a + n * n ≤ length cells.now }
     ensures { result ≡ outcome (pass_fault S.Semiring.entries (λ x. table_at S.Semiring.entries n a cells.now x i) m (table_at S.Semiring.entries n a cells.now j) n) tt }
 {
     for x in 0..n {
@@ -50,7 +53,8 @@ fn try_pass<S: Semiring>(
 // Sums t times the n entries from b on onto those from a on: nothing, where t is none.
 // A refused product would add nothing either, but `try_row` has refused those before.
 fn relax<S: Semiring>(cells: &mut [S::Cell], a: usize, t: S::Entry, b: usize, n: usize)
-    requires { (a + n ≤ b) × (b + n ≤ length cells.old) }
+    requires apart { a + n ≤ b }
+    requires room { b + n ≤ length cells.old }
     ensures { cells.new ≡ over (λ y. raised S.Semiring.entries t (at S.Semiring.entries cells.old (b + y)) (slice_index_or cells.old (a + y) (blank S.Semiring.entries))) a n cells.old }
 {
     if S::same(t, S::none()) {
@@ -65,7 +69,9 @@ fn relax<S: Semiring>(cells: &mut [S::Cell], a: usize, t: S::Entry, b: usize, n:
 
 // One pass over the table from a on, by the column and then the row that lie from b on.
 fn pass<S: Semiring>(cells: &mut [S::Cell], a: usize, b: usize, n: usize, m: S::Entry)
-    requires { (n ≤ max_nodes) × ((a + n * n ≤ b) × (b + (n + n) ≤ length cells.old)) }
+    requires count { n ≤ max_nodes }
+    requires apart { a + n * n ≤ b }
+    requires room { b + (n + n) ≤ length cells.old }
     ensures { cells.new ≡ over (passed_cell S.Semiring.entries (λ x. at S.Semiring.entries cells.old (b + x)) m (λ y. at S.Semiring.entries cells.old (b + n + y)) n a cells.old) a (n * n) cells.old }
 {
     for x in 0..n {
@@ -100,7 +106,10 @@ fn factor<S: Semiring>(
 
 // Sums onto the closure what an edge from i to j adds to it, m being its factor.
 fn spread<S: Semiring>(cells: &mut [S::Cell], n: usize, i: usize, j: usize, m: S::Entry)
-    requires { (n ≤ max_nodes) × ((i < n) × ((j < n) × (needed n ≤ length cells.old))) }
+    requires count { n ≤ max_nodes }
+    requires from_node { i < n }
+    requires to_node { j < n }
+    requires room { needed n ≤ length cells.old }
     ensures { cells.new ≡ scratch_cleared S.Semiring.entries n (closure_passed S.Semiring.entries n i j m cells.old) }
 {
     let closure = n * n;
@@ -119,7 +128,10 @@ pub(crate) fn insert_edge<S: Semiring>(
     j: usize,
     edge: S::Entry,
 ) -> Result<(), TableFault<S::Fault>>
-    requires { (n ≤ max_nodes) × ((i < n) × ((j < n) × (needed n ≤ length cells.old))) }
+    requires count { n ≤ max_nodes }
+    requires from_node { i < n }
+    requires to_node { j < n }
+    requires room { needed n ≤ length cells.old }
     ensures answer { map_err described result ≡ outcome (insertion_refusal S.Semiring.entries i j (closure_of S.Semiring.entries n cells.old) n edge) tt }
     ensures cells_after { cells.new ≡ unless (insertion_refusal S.Semiring.entries i j (closure_of S.Semiring.entries n cells.old) n edge) (inserted_cells S.Semiring.entries n i j edge cells.old) cells.old }
 {

@@ -10,7 +10,8 @@ use semiring::Semiring;
 
 // Writes unit onto the diagonal and none elsewhere of the n rows from a on.
 fn write_identity<S: Semiring>(cells: &mut [S::Cell], a: usize, n: usize)
-    requires { (n ≤ max_nodes) × (a + n * n ≤ length cells.old) }
+    requires count { n ≤ max_nodes }
+    requires room { a + n * n ≤ length cells.old }
     ensures { cells.new ≡ over (identity_cell S.Semiring.entries n) a (n * n) cells.old }
 {
     for p in 0..n * n {
@@ -21,7 +22,8 @@ fn write_identity<S: Semiring>(cells: &mut [S::Cell], a: usize, n: usize)
 
 // The cells of n nodes and no edges.
 pub(crate) fn clear_network<S: Semiring>(cells: &mut [S::Cell], n: usize)
-    requires { (n ≤ max_nodes) × (cells_needed n ≤ length cells.old) }
+    requires count { n ≤ max_nodes }
+    requires room { cells_needed n ≤ length cells.old }
     ensures { cells.new ≡ opened S.Semiring.entries n cells.old }
 {
     clear::<S>(cells, 0, needed(n));

@@ -1,15 +1,15 @@
-use Rattle.std.proofs.Common.{◌≡◌, true, false, Some, None, Ok, Err, sym, refl, ap, ◌∙◌, rules}
+use Rattle.std.proofs.Common.{◌≡◌, true, Some, None, Ok, Err, sym, refl, ap, ◌∙◌, rules}
 use Rattle.std.proofs.lemmas.Result.{err_from_is_err_and}
 use Rattle.closure.specs.Insertion.{insertion_refusal}
 use Rattle.closure.specs.Outcomes.{map_err, outcome, unless}
-use Rattle.closure.specs.Refusals.{network, no_edge, place, described as table_described}
+use Rattle.closure.specs.Refusals.{described as table_described}
 use Rattle.closure.proofs.Outcomes.{none_from_ok, some_from_err}
 use Rattle.network.specs.Calls.{read_refusal}
 use Rattle.network.specs.Faults.{answer, described}
 use Rattle.network.specs.Layout.{inserted_cells}
 use Rattle.network.specs.State.{closure_in, state, state_with}
 use Rattle.network.specs.declared.call.Call.TheVariants.{Insert}
-use Rattle.network.specs.declared.fault.NetworkFault.TheVariants.{NotAnEdge, Table}
+use Rattle.network.specs.declared.fault.NetworkFault.TheVariants.{Table}
 use Rattle.network.proofs.History.{carried_on, cycle_answer_exact}
 use Rattle.network.proofs.Network.insert.Goals as goal
 use Rattle.network.proofs.Tried.{accepted_inserts, after_decided, edge_decides, pair_decides}
@@ -32,27 +32,6 @@ returns-in_err-check_pair g c =
       accepted_inserts = accepted_inserts k g.met.S.Semiring.exact v i j σ g.met.S.Semiring.laws v left;
       history_carried_on = carried_on k (Insert i j σ) v v left;
       cycle_refused_exactly = cycle_answer_exact k g.met.S.Semiring.laws g.met.S.Semiring.exact i j σ v c.from_residual.result answered;
-      cells_lent = refl;
-    }
-
-pub returns-then-not-is_edge : goal.returns-then-not-is_edge
-returns-then-not-is_edge g c =
-    let k = g.S.Semiring.entries in
-    let v = state c.args.self.now in
-    let i = c.args.i in
-    let j = c.args.j in
-    let σ = c.args.edge in
-    let pair = none_from_ok (answer c.check_pair.result) (read_refusal k i j v) tt tt c.check_pair.ensures.answer (ap answer c.in_ok-check_pair.was) in
-    let asked : c.is_edge.result ≡ k.is_edge σ = c.is_edge.ensures in
-    let refused = edge_decides k i j σ v false pair (sym asked ∙ c.if-not-is_edge.true) in
-    let answered = sym (ap (λ o. outcome o tt) refused) in
-    let left = after_decided k i j σ v (Some (no_edge network (place i j))) refused in
-    record {
-      answered = answered;
-      state_after = left;
-      accepted_inserts = accepted_inserts k g.met.S.Semiring.exact v i j σ g.met.S.Semiring.laws v left;
-      history_carried_on = carried_on k (Insert i j σ) v v left;
-      cycle_refused_exactly = cycle_answer_exact k g.met.S.Semiring.laws g.met.S.Semiring.exact i j σ v (Err (NotAnEdge (place i j))) answered;
       cells_lent = refl;
     }
 

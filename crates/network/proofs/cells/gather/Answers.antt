@@ -14,6 +14,6 @@ loop-i-preserved g c =
     let xs = c.args.cells.now in
     let from = c.args.a + i * c.args.by in
     let new = λ (i : Prim.Native.Nat.ℕ). get_or xs (c.args.a + i * c.args.by) (blank k) in
-    let near : from < c.args.b = c.requires.1.0 i (omega arith) in
+    let near : from < c.args.b = c.requires.apart i (omega arith) in
     over_more new c.args.b xs c.loop-i.cells i (c.args.b + i) c.index-cells-a.result c.loop-i.invariant refl (omega arith)
     (get_or_read c.loop-i.cells from c.index-cells-a.result (omega arith) c.index-cells-a.is (blank k) ∙ ap (λ l. get_or l from (blank k)) c.loop-i.invariant ∙ get_or_over_below new c.args.b xs i from (blank k) near (omega arith))

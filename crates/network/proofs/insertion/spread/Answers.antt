@@ -4,14 +4,14 @@ use Rattle.closure.proofs.Rows.{place_fits, square_small}
 use Rattle.network.proofs.Spread.{spread_is}
 use Rattle.network.proofs.insertion.spread.Goals as goal
 
-pub gather-requires : goal.gather-requires
-gather-requires g c =
-    let small = square_small c.args.n max_nodes (omega arith) in
-    (omega arith, ((λ x h. let fits = place_fits x c.args.i c.args.n h (omega arith) in omega arith), omega arith))
+pub gather-requires-clause-reach : goal.gather-requires-clause-reach
+gather-requires-clause-reach g c = let small = square_small c.args.n max_nodes (omega arith) in omega arith
 
-pub gather-requires-2 : goal.gather-requires-2
-gather-requires-2 g c =
-    (omega arith, ((λ y h. let fits = place_fits c.args.j y c.args.n (omega arith) h in omega (arith, mul-one y)), omega arith))
+pub gather-requires-clause-apart : goal.gather-requires-clause-apart
+gather-requires-clause-apart g c = λ x h. let fits = place_fits x c.args.i c.args.n h (omega arith) in omega arith
+
+pub gather-requires-2-clause-apart : goal.gather-requires-2-clause-apart
+gather-requires-2-clause-apart g c = λ y h. let fits = place_fits c.args.j y c.args.n (omega arith) h in omega (arith, mul-one y)
 
 pub returns : goal.returns
 returns g c =
