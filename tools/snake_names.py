@@ -18,7 +18,6 @@ SIGNED = re.compile(r"^\s*(?:(?:abbrev|unfoldable|pub)\s+)*((?:[\w'-]+\s+)+):(?!
 BOUND = re.compile(r"[({]((?:[\w'σ-]+\s+)+):|\blet\s+([\w'-]+)|λ\s+\(?([^.:]*)[.:]|\bas\s+([\w'-]+)")
 ALIAS = re.compile(r"\bas\s+([\w'-]+)")
 CLAUSE = re.compile(r"^\s*[\w'-]+\s+([^=:]*)=(?!\S)")
-LIBRARY = re.compile(r"^(?:ghost )?use Rattle\.std[\w.]*\.\{([^}]*)\}")
 
 # Looked at one by one: functions and clauses of the code that proof files cite in the older spelling,
 # fields of answers that bear a clause's name, and fields of records beside a function of the same name.
@@ -60,11 +59,10 @@ def snake(name):
 
 def read_names():
     """The hyphened names that are the repository's own, and all names without a hyphen."""
-    own, plain, code_names, all_hyphened, library = set(), set(), set(), set(), set()
+    own, plain, code_names, all_hyphened = set(), set(), set(), set()
     for path, mark in files():
         with open(path, encoding="utf-8") as f:
             for line in f:
-                library |= {n.strip() for m in LIBRARY.finditer(line) for n in m.group(1).split(",")}
                 code = "".join(text for is_code, text in parts(line, mark) if is_code)
                 plain |= set(PLAIN.findall(code))
                 all_hyphened |= set(NAME.findall(code))
@@ -75,7 +73,7 @@ def read_names():
                 bound = [g for m in BOUND.finditer(code) for g in m.groups() if g]
                 own |= {n for text in SIGNED.findall(code) + CLAUSE.findall(code) + bound for n in NAME.findall(text)}
     own |= {n for n in all_hyphened if snake(n) in code_names}
-    return own - library, plain
+    return own, plain
 
 
 def main():

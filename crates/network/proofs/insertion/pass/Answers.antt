@@ -35,8 +35,9 @@ loop-x-preserved g c =
     let row_is = past_same k new a (x * n) (b + n) xs ys c.loop-x.invariant (omega arith) (omega arith) in
     let t_is : c.unwrap_or-t.result ≡ times k (column x) c.args.m = cc in
     let t = c.unwrap_or-t.result in
+    let raised_row : c.relax.new.cells ≡ over (λ y. raised k t (at k ys (b + n + y)) (get_or ys (a + x * n + y) (blank k))) (a + x * n) n ys = c.relax.ensures in
     pass_row k column c.args.m row n a xs ys c.relax.new.cells x t (omega arith) (omega arith) c.loop-x.invariant t_is
-    (c.relax.ensures ∙ ap (λ r. over (λ y. raised k t (r y) (get_or ys (a + x * n + y) (blank k))) (a + x * n) n ys) row_is)
+    (raised_row ∙ ap (λ r. over (λ y. raised k t (r y) (get_or ys (a + x * n + y) (blank k))) (a + x * n) n ys) row_is)
 
 pub returns : goal.returns
 returns g c =

@@ -29,7 +29,8 @@ returns-in_err-t g c =
     let x = c.loop-x.x in
     let e = err_from_is_err_and c.from_residual.result c.from_residual.ensures.1 in
     let was = c.in_err-t.was ∙ ap Err (sym e.2) in
-    let got : k.product (column x) c.args.m ≡ Err e.0 = cc in
+    let read : c.product.result ≡ k.product (column x) c.args.m = c.product.ensures ∙ ap (λ e. k.product e c.args.m) c.entry.ensures in
+    let got : k.product (column x) c.args.m ≡ Err e.0 = sym read ∙ was in
     let here = first_here (line_fault k column c.args.m row c.args.n) x c.args.n e.0 (omega arith) c.loop-x.invariant (fault_of_factor k column c.args.m row c.args.n x e.0 got) in
     e.1 ∙ sym (ap (λ o. outcome o tt) here)
 
@@ -50,7 +51,8 @@ returns-in_err-try_row g c =
     let f = c.in_ok-t.t in
     let e = err_from_is_err_and c.from_residual-in_err-try_row.result c.from_residual-in_err-try_row.ensures.1 in
     let was = c.in_ok-t.was in
-    let got : k.product (column x) c.args.m ≡ Ok f = cc in
+    let read : c.product.result ≡ k.product (column x) c.args.m = c.product.ensures ∙ ap (λ e. k.product e c.args.m) c.entry.ensures in
+    let got : k.product (column x) c.args.m ≡ Ok f = sym read ∙ was in
     let row_is = row_at k n c.args.a c.args.j c.args.cells.now in
     let fault = some_from_err c.try_row.result (row_fault k f row n) tt e.0 (c.try_row.ensures ∙ ap (λ r. outcome (row_fault k f r n) tt) row_is) (c.in_err-try_row.was ∙ ap Err (sym e.2)) in
     let here = first_here (line_fault k column c.args.m row n) x n e.0 (omega arith) c.loop-x.invariant (fault_of_row k column c.args.m row n x f got ∙ fault) in
@@ -66,7 +68,8 @@ loop-x-preserved g c =
     let x = c.loop-x.x in
     let f = c.in_ok-t.t in
     let was = c.in_ok-t.was in
-    let got : k.product (column x) c.args.m ≡ Ok f = cc in
+    let read : c.product.result ≡ k.product (column x) c.args.m = c.product.ensures ∙ ap (λ e. k.product e c.args.m) c.entry.ensures in
+    let got : k.product (column x) c.args.m ≡ Ok f = sym read ∙ was in
     let row_is = row_at k n c.args.a c.args.j c.args.cells.now in
     let held = none_from_ok c.try_row.result (row_fault k f row n) tt tt (c.try_row.ensures ∙ ap (λ r. outcome (row_fault k f r n) tt) row_is) c.in_ok-try_row.was in
     first_next (line_fault k column c.args.m row n) x c.loop-x.invariant ∙ fault_of_row k column c.args.m row n x f got ∙ held
