@@ -1,16 +1,19 @@
 -- One row of a pass, and the places of a table's rows.
-use Rattle.std.proofs.Common.{◌≡◌, ℕ, ◌+◌, ◌*◌, ◌/◌, ◌%◌, ◌<◌, ◌≤◌, true, false, cond, List, length, get_or, Some, None, Ok, Err, sym, refl, ap, ◌∙◌, add_assoc, add-mul, one-mul, arith}
-use mathlib.Core.Path.{fun_ext}
+use Rattle.std.proofs.Common.{◌≡◌, ℕ, ◌+◌, ◌-◌, ◌*◌, ◌/◌, ◌%◌, ◌<◌, ◌≤◌, true, false, cond, List, length, map, take, drop, get_or, ⊎_elim, zero-add, Some, None, Ok, Err, sym, refl, ap, ◌∙◌, add-mul, one-mul, arith}
+use borrow.Rule.Slice.PartMut.{put_mid}
+use Rattle.std.specs.List.{range_with_len}
 use Rattle.std.specs.Result.{result_unwrap_or}
+use Rattle.std.proofs.lemmas.Bool.{cases_lt}
+use Rattle.std.proofs.lemmas.List.{get_or_read, get_or-take, get_or-drop}
 use Rattle.std.proofs.lemmas.Nat.{div-mul-add, mod-mul-add, mul-le}
 use Rattle.semiring.specs.Algebra.{Semiring, Laws}
 use Rattle.semiring.specs.Entries.{Entries, Exact}
 use Rattle.semiring.proofs.Held.{none_product, same_equal, sum_none}
-use Rattle.closure.specs.Cells.{over, blank, at, table_at, times}
+use Rattle.closure.specs.Cells.{over, blank, at, times}
 use Rattle.closure.specs.Outcomes.{either, failed}
-use Rattle.closure.specs.Passes.{row_fault, raised, line_fault, passed_cell}
+use Rattle.closure.specs.Passes.{row_fault, raised, raised_cell, line_fault, passed_cell}
 use Rattle.closure.proofs.First.{first_of_none}
-use Rattle.closure.proofs.Over.{over_join, over_itself, get_or_over_past}
+use Rattle.closure.proofs.Over.{put_back, get_or_over_below, get_or_over_in, get_or_over_past}
 
 pub row_end : (i n : ℕ) → (i + 1) * n ≡ i * n + n
 row_end i n = add-mul i 1 n ∙ ap (λ z. i * n + z) (one-mul n)
@@ -21,27 +24,15 @@ row_fits i n h = omega (arith, row_end i n, mul-le (i + 1) n n n (omega arith) (
 pub place_fits : (i j n : ℕ) → i < n → j < n → i * n + j < n * n
 place_fits i j n h l = let fits = row_fits i n h in omega arith
 
--- a pair of nodes, either way round
-pub places_fit : (i j n : ℕ) → i < n → j < n → (i * n + j < n * n) × (j * n + i < n * n)
-places_fit i j n h l = (place_fits i j n h l, place_fits j i n l h)
-
-pub square_small : (n m : ℕ) → n ≤ m → n * n ≤ m * m
-square_small n m h = mul-le n n m m h h
-
 module _ {s : Semiring} {Entry Cell Fault : Type 0} (k : Entries s Entry Cell Fault) where
-  -- a row by the place where it begins
-  pub row_at : (n a j : ℕ) (xs : List Cell) → ◌≡◌ {A = ℕ → Entry} (λ y. at k xs (a + j * n + y)) (table_at k n a xs j)
-  row_at n a j xs = fun_ext (λ y. ap (at k xs) (add_assoc a (j * n) y))
+  -- what reading a cell of a slice gives
+  pub read_at : (xs : List Cell) (q p : ℕ) (c : Cell) (e : Entry) → q ≡ p → q < length xs → c ≡ get_or xs q c → e ≡ k.read (get_or xs q c) → e ≡ at k xs p
+  read_at xs q p c e same h is e_is = e_is ∙ ap k.read (sym is ∙ get_or_read xs q c h is (blank k)) ∙ ap (at k xs) same
 
   -- a factor none is never refused, and leaves the row alone
   pub none_row_fault : Laws s → Exact k → (t : Entry) (row : ℕ → Entry) (n : ℕ) → t ≡ k.none → row_fault k t row n ≡ None
   none_row_fault l exact t row n is =
       ap (λ e. row_fault k e row n) is ∙ first_of_none (λ y. failed (k.product k.none (row y))) n (λ y h. ap failed (none_product l exact (row y)))
-
-  pub none_row_kept : (t : Entry) (row : ℕ → Entry) (a n : ℕ) (xs : List Cell) → k.same t k.none ≡ true → a + n ≤ length xs → over (λ y. raised k t (row y) (get_or xs (a + y) (blank k))) a n xs ≡ xs
-  none_row_kept t row a n xs skipped room =
-      over_itself (λ y. raised k t (row y) (get_or xs (a + y) (blank k))) a xs n (blank k) room
-      (λ y h. ap (λ b. cond b (get_or xs (a + y) (blank k)) (k.write (k.sum (k.read (get_or xs (a + y) (blank k))) (times k t (row y))))) skipped)
 
   -- the entry of a raised cell, whether it was left alone or not
   pub read_raised : Laws s → Exact k → (t e : Entry) (c : Cell) → k.read (raised k t e c) ≡ k.sum (k.read c) (times k t e)
@@ -64,23 +55,37 @@ module _ {s : Semiring} {Entry Cell Fault : Type 0} (k : Entries s Entry Cell Fa
     pub fault_of_row : (x : ℕ) (t : Entry) → k.product (column x) m ≡ Ok t → line_fault k column m row n x ≡ row_fault k t row n
     fault_of_row x t e = ap (λ r. either (failed r) (row_fault k (result_unwrap_or r k.none) row n)) e
 
-    -- the rows below x were passed, and then row x
-    pub pass_row : (a : ℕ) (xs ys zs : List Cell) (x : ℕ) (t : Entry) → a + n * n ≤ length xs → x < n
-        → ys ≡ over (passed_cell k column m row n a xs) a (x * n) xs
-        → t ≡ times k (column x) m
-        → zs ≡ over (λ y. raised k t (row y) (get_or ys (a + x * n + y) (blank k))) (a + x * n) n ys
-        → zs ≡ over (passed_cell k column m row n a xs) a ((x + 1) * n) xs
-    pass_row a xs ys zs x t room h ys_is t_is zs_is =
-        let fits = row_fits x n h in
-        let new = passed_cell k column m row n a xs in
-        let each : (y : ℕ) → y < n → raised k t (row y) (get_or ys (a + x * n + y) (blank k)) ≡ new (x * n + y) = λ y l.
-        let place : a + x * n + y ≡ a + (x * n + y) = omega arith in
-        let old : get_or ys (a + x * n + y) (blank k) ≡ get_or xs (a + x * n + y) (blank k) = ap (λ z. get_or z (a + x * n + y) (blank k)) ys_is ∙ get_or_over_past new a xs (x * n) (a + x * n + y) (blank k) (omega arith) (omega arith) in
-        let at_row : (x * n + y) / n ≡ x = div-mul-add x n y l in
-        let at_column : (x * n + y) % n ≡ y = mod-mul-add x n y l in
-        cc in
-        zs_is ∙ over_join new (λ y. raised k t (row y) (get_or ys (a + x * n + y) (blank k))) a (a + x * n) (x * n) n xs ys ys_is refl (omega arith) each ∙ ap (λ p. over new a p xs) (sym (row_end x n))
+    -- of the table xs the rows above x are passed, and the others as they were
+    abbrev pub PassedAbove : ℕ → List Cell → List Cell → Type 0
+    PassedAbove x xs ys =
+        ((p : ℕ) → p < x * n → get_or ys p (blank k) ≡ passed_cell k column m row n 0 xs p)
+        × ((p : ℕ) → x * n ≤ p → get_or ys p (blank k) ≡ get_or xs p (blank k))
 
-  -- what lies past the part that was written is as it was
-  pub past_same : (f : ℕ → Cell) (a m b : ℕ) (xs ys : List Cell) → ys ≡ over f a m xs → a + m ≤ b → a ≤ length xs → ◌≡◌ {A = ℕ → Entry} (λ j. at k ys (b + j)) (λ j. at k xs (b + j))
-  past_same f a m b xs ys h l r = fun_ext (λ j. ap (λ z. at k z (b + j)) h ∙ ap k.read (get_or_over_past f a xs m (b + j) (blank k) (omega arith) r))
+    pub pass_row : (xs ys line : List Cell) (x l : ℕ) (t : Entry) → length ys ≡ n * n → x < n → l ≡ n
+        → PassedAbove x xs ys
+        → t ≡ times k (column x) m
+        → line ≡ map (raised_cell k t row (take l (drop (x * n) ys))) (range_with_len 0 n)
+        → PassedAbove (x + 1) xs (put_mid (x * n) l ys line)
+    pass_row xs ys line x l t long h l_is above t_is line_is =
+        let fits = row_fits x n h in
+        let more = row_end x n in
+        let raised_is = raised_cell k t row (take l (drop (x * n) ys)) in
+        let zs = over raised_is (x * n) n ys in
+        let same : put_mid (x * n) l ys line ≡ zs = put_back raised_is (x * n) ys n l line l_is line_is in
+        let cell : (y : ℕ) → y < n → raised_is y ≡ passed_cell k column m row n 0 xs (x * n + y) = λ y u.
+        let old : get_or (take l (drop (x * n) ys)) y (blank k) ≡ get_or xs (x * n + y) (blank k) =
+        get_or-take l (drop (x * n) ys) y (blank k) (omega arith) ∙ get_or-drop (x * n) ys y (blank k) ∙ above.1 (x * n + y) (omega arith) in
+        let at_row : (x * n + y) / n ≡ x = div-mul-add x n y u in
+        let at_column : (x * n + y) % n ≡ y = mod-mul-add x n y u in
+        let place : 0 + (x * n + y) ≡ x * n + y = zero-add (x * n + y) in
+        cc in
+        let here : (p : ℕ) → p < (x + 1) * n → get_or zs p (blank k) ≡ passed_cell k column m row n 0 xs p = λ p u.
+        ⊎_elim
+        (λ (v : p < x * n). get_or_over_below raised_is (x * n) ys n p (blank k) v (omega arith) ∙ above.0 p v)
+        (λ (v : x * n ≤ p).
+        let e : x * n + (p - x * n) ≡ p = omega arith in
+        get_or_over_in raised_is (x * n) ys n (p - x * n) p (blank k) (omega arith) (omega arith) e ∙ cell (p - x * n) (omega arith) ∙ ap (passed_cell k column m row n 0 xs) e)
+        (cases_lt p (x * n)) in (
+          (λ p u. ap (λ z. get_or z p (blank k)) same ∙ here p u),
+          (λ p u. ap (λ z. get_or z p (blank k)) same ∙ get_or_over_past raised_is (x * n) ys n p (blank k) (omega arith) (omega arith) ∙ above.1 p (omega arith)),
+        )

@@ -14,6 +14,10 @@ module _ {s : Semiring} {Entry Cell Fault : Type 0} (k : Entries s Entry Cell Fa
   abbrev pub raised : Entry → Entry → Cell → Cell
   raised t e c = cond (k.same t k.none) c (k.write (k.sum (k.read c) (times k t e)))
 
+  -- the p-th cell of a line after t times the p-th entry of a row was summed onto it
+  abbrev pub raised_cell : Entry → (ℕ → Entry) → List Cell → ℕ → Cell
+  raised_cell t row xs p = raised t (row p) (slice_index_or xs p (blank k))
+
   module _ (column : ℕ → Entry) (m : Entry) (row : ℕ → Entry) where
     -- T[x,y] + (column x · m) · row y
     abbrev pub passed : (ℕ → ℕ → Entry) → ℕ → ℕ → Entry

@@ -2,7 +2,7 @@
 
 mod fault;
 
-pub use fault::{Place, TableFault};
+pub use fault::{CheckFault, Place, TableFault};
 
 // The most nodes that a table may have.
 pub const MAX_NODES: usize = 64;

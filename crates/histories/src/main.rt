@@ -3,41 +3,8 @@
 
 use kinds::Charge;
 use network::{Call, Network};
-use semiring::Semiring;
-use std::{fmt, io};
-
-// The closure, a line for each node.
-fn print_closure<S: Semiring>(rt: &impl Print, network: &mut Network<'_, S>) -> io::Result<()>
-where
-    S::Entry: fmt::Display,
-{
-    for i in 0..network.node_count() {
-        print!(rt; "    {i}:")?;
-        for j in 0..network.node_count() {
-            let answer = network.perform(Call::Closure(i, j));
-            print!(rt; " {answer}")?;
-        }
-        println!(rt)?;
-    }
-    Ok(())
-}
-
-// Makes the calls one after the other, and prints each with its answer and the closure after it.
-fn show<S: Semiring>(
-    rt: &impl Print,
-    network: &mut Network<'_, S>,
-    calls: &[Call<S::Entry>],
-) -> io::Result<()>
-where
-    S::Entry: fmt::Display,
-{
-    for call in calls {
-        let answer = network.perform(*call);
-        println!(rt; "{call}: {answer}")?;
-        print_closure(rt, network)?;
-    }
-    Ok(())
-}
+use std::io;
+use transcript::transcribe;
 
 // A rebate on the way back: a round trip may cost nothing, but no lap may pay.
 fn rebate(rt: &impl Print) -> io::Result<()> {
@@ -57,7 +24,7 @@ fn rebate(rt: &impl Print) -> io::Result<()> {
         Call::Insert(1, 0, paying),
         Call::Edge(1, 0),
     ];
-    show(rt, &mut network, &calls)
+    transcribe(rt, &mut network, &calls)
 }
 
 fn main(rt: HostRuntime) -> io::Result<()> {
@@ -67,35 +34,22 @@ fn main(rt: HostRuntime) -> io::Result<()> {
 #[cfg(test)]
 mod tests {
     use super::*;
-    use kinds::KindNumber;
-    use network::NetworkFault;
     use std::test::Fail;
-
-    // The number of a refusal, 0 where there is none.
-    fn refused(res: Result<(), NetworkFault<KindNumber>>) -> u8 {
-        match res {
-            Ok(()) => 0,
-            Err(fault) => fault.number(),
-        }
-    }
-
-    // The entry of a number that has one.
-    fn entry<E>(number: Option<E>) -> Result<E, Fail> {
-        match number {
-            Some(entry) => Ok(entry),
-            None => Err(Fail::new("no entry has this number")),
-        }
-    }
 
     #[test]
     fn paying_cycle_refused_and_forgotten(rt: HostRuntime) -> Result<(), Fail> {
         let mut cells = [0; 12];
         let mut network = Network::<Charge>::wrap(&mut cells);
-        assert_eq!(rt; refused(network.open(2)), 0);
-        assert_eq!(rt; refused(network.insert(0, 1, entry(Charge::new(500))?)), 0);
-        assert_eq!(rt; refused(network.insert(1, 0, entry(Charge::new(-501))?)), 6);
+        network.open(2)?;
+        network.insert(0, 1, Charge::new(500).unwrap())?;
+        assert_eq!(rt;
+            network
+                .insert(1, 0, Charge::new(-501).unwrap())
+                .map_err(|fault| fault.number()),
+            Err(6)
+        );
         assert_eq!(rt; network.closure(1, 0)?.number(), None);
-        assert_eq!(rt; refused(network.insert(1, 0, entry(Charge::new(-500))?)), 0);
+        network.insert(1, 0, Charge::new(-500).unwrap())?;
         assert_eq!(rt; network.closure(0, 0)?.number(), Some(0));
         Ok(())
     }

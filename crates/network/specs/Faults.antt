@@ -1,16 +1,13 @@
 -- What each fault of a network says, and the checks that every call puts first.
 use Rattle.std.specs.Prelude.{ℕ, ◌+◌, ◌*◌, Bool, cond, ◌&&◌, Some, None, Option, Result, nat_le, nat_lt}
 use Rattle.closure.specs.Limits.{max_nodes}
-use Rattle.closure.specs.Refusals.{Refusal, network, plain, no_edge, described as table_described}
+use Rattle.closure.specs.Refusals.{Refusal, failed_check, network, plain, described as table_described}
 use Rattle.closure.specs.Outcomes.{either, map_err}
 use Rattle.network.specs.declared.fault.NetworkFault.{NetworkFault}
-use Rattle.network.specs.declared.fault.NetworkFault.TheVariants.{NodeCount, TooShort, NotANode, NotAnEdge, Table}
+use Rattle.network.specs.declared.fault.NetworkFault.TheVariants.{Check, Table}
 
 abbrev pub described : {F : Type 0} → NetworkFault F → Refusal F
-described NodeCount = plain network 1
-described TooShort = plain network 2
-described NotANode = plain network 3
-described (NotAnEdge p) = no_edge network p
+described (Check c) = failed_check network c
 described (Table t) = table_described t
 
 -- what a call answers, its fault by what it says

@@ -1,22 +1,13 @@
 -- A network's history: the calls made on it, and the edges that it has accepted.
-use Rattle.std.specs.Prelude.{ℕ, cond, ◌&&◌, List, Some, None, Ok, Err, Option, Result, ◌==◌}
+use Rattle.std.specs.Prelude.{ℕ, cond, ◌&&◌, List, Some, None, Option, Result, ◌==◌}
 use Rattle.semiring.specs.Algebra.{Semiring}
 use Rattle.semiring.specs.Entries.{Entries}
 use Rattle.closure.specs.Outcomes.{outcome, unless}
 use Rattle.closure.specs.Refusals.{Refusal}
 use Rattle.network.specs.Calls.{after_insert, after_open, insert_refusal, open_refusal, read_refusal}
-use Rattle.network.specs.Faults.{described}
 use Rattle.network.specs.State.{State, state_with, edge_in, closure_in}
-use Rattle.network.specs.declared.call.Answer.{Answer}
-use Rattle.network.specs.declared.call.Answer.TheVariants.{Accepted, Entry, Refused}
 use Rattle.network.specs.declared.call.Call.{Call}
 use Rattle.network.specs.declared.call.Call.TheVariants.{Open, Insert, Edge, Closure}
-
--- what an answer says: an entry where one was read, or why the call was refused
-abbrev pub said : {E F : Type 0} → Answer E F → Result (Option E) (Refusal F)
-said Accepted = Ok None
-said (Entry e) = Ok (Some e)
-said (Refused w) = Err (described w)
 
 module _ {s : Semiring} {E C F : Type 0} (k : Entries s E C F) where
   -- what a call is answered

@@ -1,10 +1,9 @@
 -- How a call and its answer are printed.
-use Rattle.std.specs.Prelude.{ℕ, List, ◌++◌, Some, None, codes, decimal, Option}
+use Rattle.std.specs.Prelude.{ℕ, List, ◌++◌, Some, None, Ok, Err, codes, decimal, Option, Result}
 use Rattle.closure.specs.Refusals.{refusal_text}
 use Rattle.network.specs.Faults.{described}
-use Rattle.network.specs.declared.call.Answer.{Answer}
-use Rattle.network.specs.declared.call.Answer.TheVariants.{Accepted, Entry, Refused}
 use Rattle.network.specs.declared.call.Call.{Call}
+use Rattle.network.specs.declared.fault.NetworkFault.{NetworkFault}
 use Rattle.network.specs.declared.call.Call.TheVariants.{Open, Insert, Edge, Closure}
 
 -- I to J
@@ -23,7 +22,8 @@ module _ {E : Type 0} (shown : E → Option (List ℕ)) where
   call_text (Edge i j) = Some (codes "edge " ++ pair_text i j)
   call_text (Closure i j) = Some (codes "closure " ++ pair_text i j)
 
-  abbrev pub answer_text : {F : Type 0} → Answer E F → Option (List ℕ)
-  answer_text Accepted = Some (codes "accepted")
-  answer_text (Entry e) = shown e
-  answer_text (Refused w) = Some (refusal_text (described w))
+  -- an entry that was read, or that the call was accepted or refused
+  abbrev pub answer_text : {F : Type 0} → Result (Option E) (NetworkFault F) → Option (List ℕ)
+  answer_text (Ok None) = Some (codes "accepted")
+  answer_text (Ok (Some e)) = shown e
+  answer_text (Err w) = Some (refusal_text (described w))

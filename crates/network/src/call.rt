@@ -5,6 +5,7 @@ use crate::fault::NetworkFault;
 use std::fmt;
 
 // One call of a history. E is the semiring's entry.
+// An enum, not a closure: a call stands in lists, is printed, and the theory goes along it case by case.
 #[derive(Clone, Copy)]
 pub enum Call<E> {
     Open(usize),
@@ -26,22 +27,18 @@ impl<E: fmt::Display> fmt::Display for Call<E> {
     }
 }
 
-// What one call is answered.
+// What `perform` answered, to be printed.
 #[derive(Drop)]
-pub enum Answer<E, F> {
-    Accepted,
-    Entry(E),
-    Refused(NetworkFault<F>),
-}
+pub struct Answer<E, F>(pub Result<Option<E>, NetworkFault<F>>);
 
 impl<E: fmt::Display, F> fmt::Display for Answer<E, F> {
-    ghost output = { λ a. answer_text E.Display.output a };
+    ghost output = { λ a. answer_text E.Display.output a.0 };
 
     fn fmt<W: fmt::Write>(&self, f: &mut fmt::Formatter<W>) -> fmt::Result {
-        match self {
-            Answer::Accepted => write!(f, "accepted"),
-            Answer::Entry(entry) => write!(f, "{entry}"),
-            Answer::Refused(fault) => write!(f, "{fault}"),
+        match &self.0 {
+            Ok(None) => write!(f, "accepted"),
+            Ok(Some(entry)) => entry.fmt(f),
+            Err(fault) => fault.fmt(f),
         }
     }
 }

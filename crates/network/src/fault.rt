@@ -1,30 +1,25 @@
 ghost use Rattle.std.specs.Prelude.{◌≡◌, Some};
 ghost use Rattle.closure.specs.Refusals.{refusal_text};
 ghost use Rattle.network.specs.Faults.{described};
+ghost use Rattle.network.specs.declared.fault.NetworkFault.TheVariants.{Check, Table};
 
-use closure::{Place, TableFault};
+use closure::{CheckFault, Place, TableFault};
 use std::fmt;
 
 // Why a call on a network was refused. A refused step on its tables is held whole.
 #[derive(Debug, Drop)]
 pub enum NetworkFault<F> {
-    NodeCount,
-    TooShort,
-    NotANode,
-    NotAnEdge(Place),
+    Check(CheckFault),
     Table(TableFault<F>),
 }
 
 impl<F> NetworkFault<F> {
-    // The refusal's number, as the rules count them.
+    // The number by which the rules count the refusal and print it.
     pub fn number(&self) -> u8
         ensures number_described { result ≡ (described self.now).number }
     {
         match self {
-            NetworkFault::NodeCount => 1,
-            NetworkFault::TooShort => 2,
-            NetworkFault::NotANode => 3,
-            NetworkFault::NotAnEdge(_) => 4,
+            NetworkFault::Check(check) => check.number(),
             NetworkFault::Table(fault) => fault.number(),
         }
     }
@@ -34,11 +29,25 @@ impl<F> NetworkFault<F> {
         ensures place_described { result ≡ (described self.now).place }
     {
         match self {
-            NetworkFault::NodeCount | NetworkFault::TooShort | NetworkFault::NotANode =>
-                Place::NOWHERE,
-            NetworkFault::NotAnEdge(place) => *place,
+            NetworkFault::Check(check) => check.place(),
             NetworkFault::Table(fault) => fault.place(),
         }
+    }
+}
+
+impl<F> From<CheckFault> for NetworkFault<F> {
+    ghost from_gives = { λ check fault. fault ≡ Check check };
+
+    fn from(check: CheckFault) -> NetworkFault<F> {
+        NetworkFault::Check(check)
+    }
+}
+
+impl<F> From<TableFault<F>> for NetworkFault<F> {
+    ghost from_gives = { λ step fault. fault ≡ Table step };
+
+    fn from(step: TableFault<F>) -> NetworkFault<F> {
+        NetworkFault::Table(step)
     }
 }
 
@@ -46,8 +55,9 @@ impl<F> fmt::Display for NetworkFault<F> {
     ghost output = { λ t. Some (refusal_text (described t)) };
 
     fn fmt<W: fmt::Write>(&self, f: &mut fmt::Formatter<W>) -> fmt::Result {
-        let number = self.number();
-        let place = self.place();
-        write!(f, "refused {number} at {place}")
+        match self {
+            NetworkFault::Check(check) => check.fmt(f),
+            NetworkFault::Table(fault) => fault.fmt(f),
+        }
     }
 }

@@ -13,6 +13,7 @@ mod checks;
 mod fault;
 mod insertion;
 mod opening;
+mod pair;
 mod perform;
 
 pub use call::{Answer, Call};
@@ -20,6 +21,7 @@ pub use fault::NetworkFault;
 
 // A network of n nodes over borrowed cells: its edges, their closure, and scratch.
 // What lies behind these in the slice is never touched.
+// One slice and a count, not three tables: the caller lends the memory, and no heap is used.
 pub struct Network<'a, S: Semiring> {
     cells: &'a mut [S::Cell],
     n: usize,

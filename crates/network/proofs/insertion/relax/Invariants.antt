@@ -1,11 +1,11 @@
-use Rattle.std.proofs.Common.{◌≡◌, ◌+◌, get_or}
-use Rattle.closure.specs.Cells.{over, blank, at}
-use Rattle.closure.specs.Passes.{raised}
+use Rattle.std.proofs.Common.{◌≡◌, ℕ, ◌<◌, ◌≤◌, get_or}
+use Rattle.closure.specs.Cells.{blank, at}
+use Rattle.closure.specs.Passes.{raised_cell}
 use Rattle.network.proofs.insertion.relax.Given as goal
 
--- the row is raised below y
+-- the line is raised below y, and as it was from y on
 abbrev pub invariant-loop-y : goal.invariant-loop-y
 invariant-loop-y g l =
     let k = g.S.Semiring.entries in
-    let xs = l.initial.cells in
-    l.cells ≡ over (λ y. raised k l.t (at k xs (l.b + y)) (get_or xs (l.a + y) (blank k))) l.a l.y xs
+    ((p : ℕ) → p < l.y → get_or l.line p (blank k) ≡ raised_cell k l.t (at k l.row) l.initial.line p)
+    × ((p : ℕ) → l.y ≤ p → get_or l.line p (blank k) ≡ get_or l.initial.line p (blank k))

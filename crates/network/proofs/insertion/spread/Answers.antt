@@ -1,20 +1,20 @@
-use Rattle.std.proofs.Common.{mul-one, arith}
-use Rattle.closure.specs.Limits.{max_nodes}
-use Rattle.closure.proofs.Rows.{place_fits, square_small}
+use Rattle.std.proofs.Common.{◌≡◌, ◌+◌, ◌-◌, ◌*◌, ◌∙◌, ap, refl, ◌++◌, length, take, drop, arith}
+use Rattle.std.proofs.lemmas.List.{drop-drop, length-append, length-take-le}
 use Rattle.network.proofs.Spread.{spread_is}
 use Rattle.network.proofs.insertion.spread.Goals as goal
 
-pub gather-requires-clause-reach : goal.gather-requires-clause-reach
-gather-requires-clause-reach g c = let small = square_small c.args.n max_nodes (omega arith) in omega arith
-
-pub gather-requires-clause-apart : goal.gather-requires-clause-apart
-gather-requires-clause-apart g c = λ x h. let fits = place_fits x c.args.i c.args.n h (omega arith) in omega arith
-
-pub gather-requires-2-clause-apart : goal.gather-requires-2-clause-apart
-gather-requires-2-clause-apart g c = λ y h. let fits = place_fits c.args.j y c.args.n (omega arith) h in omega (arith, mul-one y)
-
 pub returns : goal.returns
 returns g c =
-    spread_is g.S.Semiring.entries c.args.n c.args.i c.args.j c.args.cells.now c.gather.new.cells c.gather-2.new.cells
-    (omega arith) (omega arith) (omega arith) c.gather.ensures c.gather-2.ensures
-    c.args.m c.pass.new.cells c.clear.new.cells c.pass.ensures c.clear.ensures
+    let k = g.S.Semiring.entries in
+    let p = c.args.pair in
+    let n = p.n in
+    let xs = c.args.cells.now in
+    let rest : c.split_at_mut-edges.result.1.now ≡ drop (n * n) xs = c.split_at_mut-edges.ensures.back in
+    let table_is : c.split_at_mut-closure.result.0.now ≡ take (n * n) (drop (n * n) xs) = c.split_at_mut-closure.ensures.front ∙ ap (take (n * n)) rest in
+    let behind : c.split_at_mut-closure.result.1.now ≡ drop (n * n + n * n) xs = c.split_at_mut-closure.ensures.back ∙ ap (drop (n * n)) rest ∙ drop-drop (n * n) (n * n) xs in
+    let scratch_long = length-take-le (n + n) c.split_at_mut-closure.result.1.now (omega arith) in
+    spread_is k n p.i p.j xs (omega arith) (omega arith) (omega arith) (n * n) refl c.args.m (p.j * n + n - p.j * n) (length c.split_at_mut-column.result.0.now)
+    (length (c.copy_column.new.column ++ c.copy_from_slice.new.self))
+    c.split_at_mut-edges.result.0.now c.split_at_mut-closure.result.0.now c.copy_column.new.column c.copy_from_slice.new.self c.pass.new.table c.clear.new.cells c.split_at_mut-closure.result.1.now
+    (omega arith) c.split_at_mut-column.ensures.front_len (simp length-append (omega (arith, scratch_long))) c.split_at_mut-edges.ensures.front table_is
+    c.copy_column.ensures c.copy_from_slice.ensures.after c.pass.ensures c.clear.ensures behind

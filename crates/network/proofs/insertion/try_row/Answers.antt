@@ -1,6 +1,8 @@
-use Rattle.std.proofs.Common.{◌≡◌, ◌+◌, Ok, Err, sym, ap, ◌∙◌, arith}
+use Rattle.std.proofs.Common.{◌≡◌, Err, length, sym, ap, ◌∙◌, arith}
+use Rattle.std.proofs.lemmas.List.{get_or_read}
+use Rattle.std.proofs.lemmas.Result.{err_from_is_err_and}
 use Rattle.semiring.proofs.Held.{same_equal}
-use Rattle.closure.specs.Cells.{at}
+use Rattle.closure.specs.Cells.{at, blank}
 use Rattle.closure.specs.Outcomes.{failed, outcome}
 use Rattle.closure.proofs.First.{first_none, first_next, first_here}
 use Rattle.closure.proofs.Rows.{none_row_fault}
@@ -10,23 +12,25 @@ pub returns-then-same : goal.returns-then-same
 returns-then-same g c =
     let k = g.S.Semiring.entries in
     let none_is = same_equal g.met.S.Semiring.laws g.met.S.Semiring.exact c.args.t k.none (cc) in
-    sym (ap (λ o. outcome o tt) (none_row_fault k g.met.S.Semiring.laws g.met.S.Semiring.exact c.args.t (λ y. at k c.args.cells.now (c.args.b + y)) c.args.n none_is))
+    sym (ap (λ o. outcome o tt) (none_row_fault k g.met.S.Semiring.laws g.met.S.Semiring.exact c.args.t (at k c.args.row.now) (length c.args.row.now) none_is))
 
-pub loop-y-init : goal.loop-y-init
-loop-y-init g c = let k = g.S.Semiring.entries in first_none (λ y. failed (k.product c.args.t (at k c.args.cells.now (c.args.b + y))))
+pub loop-cell-init : goal.loop-cell-init
+loop-cell-init g c = let k = g.S.Semiring.entries in first_none (λ y. failed (k.product c.args.t (at k c.args.row.now y)))
 
-pub returns-in-Err : goal.returns-in-Err
-returns-in-Err g c =
+pub returns-in_err-product : goal.returns-in_err-product
+returns-in_err-product g c =
     let k = g.S.Semiring.entries in
-    let xs = c.args.cells.now in
-    let y = c.loop-y.y in
-    let got : k.product c.args.t (at k xs (c.args.b + y)) ≡ Err c.in-Err.w = cc in
-    sym (ap (λ o. outcome o tt) (first_here (λ y. failed (k.product c.args.t (at k xs (c.args.b + y)))) y c.args.n c.in-Err.w (omega arith) c.loop-y.invariant (ap failed got)))
+    let row = at k c.args.row.now in
+    let e = err_from_is_err_and c.from_residual.result c.from_residual.ensures.1 in
+    let was = c.in_err-product.was ∙ ap Err (sym e.2) in
+    let read : c.product.result ≡ k.product c.args.t (row c.loop-cell.cell-index) = c.product.ensures ∙ ap (k.product c.args.t) (c.read.ensures ∙ ap k.read (get_or_read c.args.row.now c.loop-cell.cell-index c.cell-item.result (omega arith) c.cell-item.is (blank k))) in
+    let got : k.product c.args.t (row c.loop-cell.cell-index) ≡ Err e.0 = sym read ∙ was in
+    let here = first_here (λ y. failed (k.product c.args.t (row y))) c.loop-cell.cell-index (length c.args.row.now) e.0 (omega arith) c.loop-cell.invariant (ap failed got) in
+    e.1 ∙ sym (ap (λ o. outcome o tt) here)
 
-pub loop-y-preserved : goal.loop-y-preserved
-loop-y-preserved g c =
+pub loop-cell-preserved : goal.loop-cell-preserved
+loop-cell-preserved g c =
     let k = g.S.Semiring.entries in
-    let xs = c.args.cells.now in
-    let y = c.loop-y.y in
-    let got : k.product c.args.t (at k xs (c.args.b + y)) ≡ Ok c.in_default.field-0 = cc in
-    first_next (λ y. failed (k.product c.args.t (at k xs (c.args.b + y)))) y c.loop-y.invariant ∙ ap failed got
+    let y = c.loop-cell.cell-index in
+    let read : c.product.result ≡ k.product c.args.t (at k c.args.row.now y) = c.product.ensures ∙ ap (k.product c.args.t) (c.read.ensures ∙ ap k.read (get_or_read c.args.row.now y c.cell-item.result (omega arith) c.cell-item.is (blank k))) in
+    first_next (λ y. failed (k.product c.args.t (at k c.args.row.now y))) y c.loop-cell.invariant ∙ ap failed (sym read ∙ c.in_ok-product.was)

@@ -1,8 +1,8 @@
-use Rattle.std.proofs.Common.{◌≡◌, ◌+◌, None}
+use Rattle.std.proofs.Common.{◌≡◌, None}
 use Rattle.closure.specs.Cells.{at}
 use Rattle.closure.specs.Passes.{row_fault}
 use Rattle.network.proofs.insertion.try_row.Given as goal
 
--- no product was refused so far
-abbrev pub invariant-loop-y : goal.invariant-loop-y
-invariant-loop-y g l = let k = g.S.Semiring.entries in row_fault k l.t (λ y. at k l.cells (l.b + y)) l.y ≡ None
+-- no product before this cell was refused
+abbrev pub invariant-loop-cell : goal.invariant-loop-cell
+invariant-loop-cell g l = row_fault g.S.Semiring.entries l.t (at g.S.Semiring.entries l.row) l.cell-index ≡ None

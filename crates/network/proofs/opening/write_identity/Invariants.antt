@@ -1,7 +1,7 @@
-use Rattle.std.proofs.Common.{◌≡◌}
-use Rattle.closure.specs.Cells.{over}
+use Rattle.std.proofs.Common.{◌≡◌, ℕ, ◌<◌, get_or}
+use Rattle.closure.specs.Cells.{blank}
 use Rattle.network.specs.Layout.{identity_cell}
 use Rattle.network.proofs.opening.write_identity.Given as goal
 
 abbrev pub invariant-loop-p : goal.invariant-loop-p
-invariant-loop-p g l = l.cells ≡ over (identity_cell g.S.Semiring.entries l.n) l.a l.p l.initial.cells
+invariant-loop-p g l = let k = g.S.Semiring.entries in (q : ℕ) → q < l.p → get_or l.table q (blank k) ≡ identity_cell k l.n q
