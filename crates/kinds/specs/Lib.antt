@@ -1,8 +1,9 @@
 pub mod Limits
+pub mod Kinds
 pub mod Amount
+pub mod Numbers
+pub mod AmountLaws
+pub mod Entries
+pub mod Exact
 pub mod Pulses
 pub mod Charge
-pub mod ChargeLaws
-pub mod ChargeExact
-pub mod PulsesLaws
-pub mod PulsesExact

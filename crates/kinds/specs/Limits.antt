@@ -1,5 +1,5 @@
 -- The limits of the kinds, each named once.
-use Rattle.std.specs.Prelude.{ℕ, ◌+◌, ℤ, pos, ◌+ℤ◌, neg_ℤ, ◌≤ℤ◌}
+use Rattle.std.specs.Prelude.{ℕ, ◌+◌, ℤ, pos, ◌+ℤ◌}
 
 -- the largest number of pulses that an entry holds
 abbrev pub pulses_limit : ℕ
@@ -24,7 +24,3 @@ charge_edge_limit = pos 1000000
 -- the number that stands for none
 abbrev pub charge_none : ℤ
 charge_none = charge_limit +ℤ pos 1
-
--- the numbers of an entry: up to the limit on either side, and none's
-abbrev pub charge_bound : ℤ → Type 0
-charge_bound n = (neg_ℤ charge_limit ≤ℤ n) × (n ≤ℤ charge_none)

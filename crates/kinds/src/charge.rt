@@ -1,11 +1,57 @@
-ghost use Rattle.kinds.specs.Limits.{charge_bound};
+// Charges: entries of whole numbers of either sign.
+ghost use Rattle.std.specs.Prelude.{pos, refl};
+ghost use Rattle.kinds.specs.Limits.{charge_limit, charge_edge_limit, charge_none};
+ghost use Rattle.kinds.specs.Charge as charge;
+ghost use Rattle.kinds.specs.declared.kind.Kind.TheVariants as kind;
 
-pub(crate) mod algebra;
-pub(crate) mod entry;
+use crate::amount::Amount;
+use crate::kind::Kind;
+use crate::number::Number;
 
-// A charge of a magnitude up to the limit, or none, for which the number after the limit stands.
-#[derive(Clone, Copy, PartialEq, Eq, Debug)]
-pub struct Charge {
-    number: i64,
-    ghost bound: { charge_bound number },
+pub type Charge = Amount<i64>;
+
+impl Charge {
+    // the largest magnitude that an entry holds
+    pub const LIMIT: i64 = 1_000_000_000;
+
+    // the largest magnitude that an edge may have
+    pub const EDGE_LIMIT: i64 = 1_000_000;
+}
+
+impl Number for i64 {
+    ghost numbers = { charge.integers };
+
+    ghost KIND = { kind.Charge };
+
+    ghost ZERO = { pos 0 };
+
+    ghost LIMIT = { charge_limit };
+
+    ghost EDGE_LIMIT = { charge_edge_limit };
+
+    ghost NONE = { charge_none };
+
+    ghost laws = { charge.laws };
+
+    ghost limits = { charge.limits };
+
+    ghost order = { λ a b. refl };
+
+    const KIND: Kind = Kind::Charge;
+
+    const ZERO: i64 = 0;
+
+    const LIMIT: i64 = Charge::LIMIT;
+
+    const EDGE_LIMIT: i64 = Charge::EDGE_LIMIT;
+
+    const NONE: i64 = Self::LIMIT + 1;
+
+    fn whole(self) -> i128 {
+        i128::from(self)
+    }
+
+    fn try_add(self, other: i64) -> Option<i64> {
+        self.checked_add(other)
+    }
 }

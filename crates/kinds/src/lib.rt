@@ -1,11 +1,15 @@
 #![tactic(auto)]
 
+mod amount;
 mod charge;
-mod fault;
+mod kind;
+mod number;
 mod pulses;
 
+pub use amount::Amount;
 pub use charge::Charge;
-pub use fault::KindNumber;
+pub use kind::Kind;
+pub use number::Number;
 pub use pulses::Pulses;
 
 #[cfg(test)]
@@ -21,8 +25,8 @@ mod tests {
         let one = <Pulses as Semiring>::read(1);
         assert_eq!(rt; <Pulses as Semiring>::product(most, zero), Ok(most));
         assert_eq!(rt;
-            <Pulses as Semiring>::product(most, one),
-            Err(KindNumber(1))
+            <Pulses as Semiring>::product(most, one).map_err(Kind::number),
+            Err(1)
         );
     }
 
@@ -76,12 +80,16 @@ mod tests {
         assert_eq!(rt; <Charge as Semiring>::product(least, zero), Ok(least));
         assert_eq!(rt; <Charge as Semiring>::product(most, least), Ok(zero));
         assert_eq!(rt;
-            <Charge as Semiring>::product(most, <Charge as Semiring>::read(1)),
-            Err(KindNumber(2))
+            <Charge as Semiring>::product(most, <Charge as Semiring>::read(1)).map_err(
+                Kind::number
+            ),
+            Err(2)
         );
         assert_eq!(rt;
-            <Charge as Semiring>::product(least, <Charge as Semiring>::read(-1)),
-            Err(KindNumber(2))
+            <Charge as Semiring>::product(least, <Charge as Semiring>::read(-1)).map_err(
+                Kind::number
+            ),
+            Err(2)
         );
     }
 
@@ -89,8 +97,8 @@ mod tests {
     fn charge_star_refused_below_zero(rt: HostRuntime) {
         let unit = <Charge as Semiring>::unit();
         assert_eq!(rt;
-            <Charge as Semiring>::star(<Charge as Semiring>::read(-1)),
-            Err(KindNumber(2))
+            <Charge as Semiring>::star(<Charge as Semiring>::read(-1)).map_err(Kind::number),
+            Err(2)
         );
         assert_eq!(rt;
             <Charge as Semiring>::star(<Charge as Semiring>::read(0)),
