@@ -19,7 +19,7 @@ returns-in_err-println-clause-performed g c =
     ∙ ap (λ x. after k x (after_all k (take c.loop-call.call-index calls) v)) c.call-item.is
     ∙ sym (fold_more (λ w x. after k x w) v calls c.loop-call.call-index call (omega arith)) in
     let e = err_from_is_err_and c.from_residual.result c.from_residual.ensures.1 in
-    subst (Performed k calls v w) (sym e.1) (m, (omega arith), made)
+    subst (Performed k calls v w) (sym e.1) (m, omega arith, omega arith, made)
 
 pub returns-in_err-print_closure-clause-performed : goal.returns-in_err-print_closure-clause-performed
 returns-in_err-print_closure-clause-performed g c =
@@ -34,4 +34,4 @@ returns-in_err-print_closure-clause-performed g c =
     ∙ ap (λ x. after k x (after_all k (take c.loop-call.call-index calls) v)) c.call-item.is
     ∙ sym (fold_more (λ w x. after k x w) v calls c.loop-call.call-index call (omega arith)) in
     let e = err_from_is_err_and c.from_residual-in_err-print_closure.result c.from_residual-in_err-print_closure.ensures.1 in
-    subst (Performed k calls v w) (sym e.1) (m, (omega arith), made)
+    subst (Performed k calls v w) (sym e.1) (m, omega arith, omega arith, made)
