@@ -2,6 +2,7 @@ pub mod Outcomes
 pub mod First
 pub mod Over
 pub mod Rows
+pub mod Writes
 pub mod Pairs
 pub mod Walks
 pub mod Moves

@@ -1,6 +1,6 @@
 -- What an answer tells of the refusal behind it.
 use Rattle.std.proofs.Common.{◌≡◌, ℕ, Some, None, Ok, Err, Option, Result, refl, arith}
-use Rattle.closure.specs.Outcomes.{either, failed, outcome}
+use Rattle.closure.specs.Outcomes.{either, failed, map_ok, outcome}
 
 pub some_not_none : {A B : Type 0} (o : Option A) (w : A) → o ≡ Some w → o ≡ None → B
 some_not_none o w e h = let z : ◌≡◌ {A = ℕ} 0 1 = cc in absurd (omega arith)
@@ -21,3 +21,7 @@ module _ {A F : Type 0} where
   pub failed_outcome : (o : Option F) (x : A) → failed (outcome o x) ≡ o
   failed_outcome None x = refl
   failed_outcome (Some w) x = refl
+
+  pub map_ok_outcome : {B : Type 0} (f : A → B) (o : Option F) (x : A) → map_ok f (outcome o x) ≡ outcome o (f x)
+  map_ok_outcome f None x = refl
+  map_ok_outcome f (Some w) x = refl

@@ -11,7 +11,7 @@ abbrev pub Kept : {A : Type 0} → ℕ → ℕ → List A → List A → Type 0
 Kept a m xs ys = (take a ys ≡ take a xs) × (drop (a + m) ys ≡ drop (a + m) xs)
 
 module _ {A : Type 0} (f : ℕ → A) (a : ℕ) (xs : List A) where
-  front_length : (m : ℕ) → a ≤ length xs → length (take a xs ++ map f (range_with_len 0 m)) ≡ a + m
+  pub front_length : (m : ℕ) → a ≤ length xs → length (take a xs ++ map f (range_with_len 0 m)) ≡ a + m
   front_length m h = simp (length-append, length-map-range_with_len, length-take) (omega arith)
 
   pub length_over : (m : ℕ) → a + m ≤ length xs → length (over f a m xs) ≡ length xs

@@ -11,12 +11,29 @@ use Rattle.closure.specs.Refusals.{Refusal, cycle, network, no_edge, place, plai
 use Rattle.closure.specs.Theory.{Extended}
 use Rattle.closure.proofs.Outcomes.{some_not_none}
 use Rattle.closure.proofs.Steps.{Steps, accepted as steps_accepted, cyclic as steps_cyclic, overflowing, steps}
-use Rattle.network.specs.Calls.{after_insert, after_open, insert_refusal, open_refusal}
+use Rattle.network.specs.Calls.{after_insert, after_open, insert_refusal, open_refusal, read_refusal}
 use Rattle.network.specs.Faults.{needed, refused_unless}
 use Rattle.network.specs.Layout.{inserted_cells, opened}
 use Rattle.network.specs.Meaning.{Inserted, Opened}
 use Rattle.network.specs.State.{State, closure_in, state_with}
 use Rattle.network.proofs.Meaning.{inserted_means, opened_means}
+
+module _ {s : Semiring} {E C F : Type 0} (k : Entries s E C F) (i j : ℕ) (σ : E) (v : State C) where
+  abbrev step_refusal : Option (Refusal F)
+  step_refusal = insertion_refusal k i j (closure_in k v) v.n σ
+
+  abbrev decided_by : Option (Refusal F) → Bool → Option (Refusal F)
+  decided_by pair edge = either pair (either (refused_unless edge (no_edge network (place i j))) step_refusal)
+
+  -- which part of an insertion decides: the pair, and then the edge or the steps
+  pub pair_decides : (r : Refusal F) → read_refusal k i j v ≡ Some r → insert_refusal k i j σ v ≡ Some r
+  pair_decides r pair = ap (λ o. decided_by o (k.is_edge σ)) pair
+
+  pub edge_decides : (edge : Bool) → read_refusal k i j v ≡ None → k.is_edge σ ≡ edge → insert_refusal k i j σ v ≡ decided_by None edge
+  edge_decides edge pair is = ap (λ o. decided_by o (k.is_edge σ)) pair ∙ ap (decided_by None) is
+
+  pub after_decided : (o : Option (Refusal F)) → insert_refusal k i j σ v ≡ o → unless o (state_with v.n (inserted_cells k v.n i j σ v.cells)) v ≡ after_insert k i j σ v
+  after_decided o is = sym (ap (λ r. unless r (state_with v.n (inserted_cells k v.n i j σ v.cells)) v) is)
 
 module _ {s : Semiring} {E C F : Type 0} (k : Entries s E C F) (exact : Exact k) where
   -- an accepted opening has room
