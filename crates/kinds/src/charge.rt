@@ -51,7 +51,13 @@ impl Number for i64 {
         i128::from(self)
     }
 
+    // The sum of two numbers within the limit can't overflow, so it is not asked whether it did.
     fn try_add(self, other: i64) -> Option<i64> {
-        self.checked_add(other)
+        let held = -Charge::LIMIT..=Charge::LIMIT;
+        if held.contains(&self) && held.contains(&other) {
+            Some(self + other)
+        } else {
+            self.checked_add(other)
+        }
     }
 }

@@ -44,10 +44,16 @@ pub trait Number: Copy + Ord {
         ensures { IsSum numbers LIMIT self other result };
 
     // Whether the magnitude of a number is at most that of a limit.
+    // A range, where the limit is not below zero, as no kind's is: one comparison in the code that is made of it.
     final fn is_within(self, limit: Self) -> bool
         ensures { result ≡ up_to (numbers.whole limit) (numbers.whole self) }
     {
-        self.whole().unsigned_abs() <= limit.whole().unsigned_abs()
+        let (number, limit) = (self.whole(), limit.whole());
+        if limit < 0 {
+            number.unsigned_abs() <= limit.unsigned_abs()
+        } else {
+            (-limit..=limit).contains(&number)
+        }
     }
 
     ghost laws: { NumberLaws numbers ZERO };
