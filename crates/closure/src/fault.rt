@@ -67,7 +67,7 @@ impl fmt::Display for CheckFault {
 
 // Why work on a table was refused. F is the semiring's own word for it.
 // It has the checks as well, for work on tables that no network has checked before.
-#[derive(Debug, Drop)]
+#[derive(Drop)]
 pub enum TableFault<F> {
     Check(CheckFault),
     TooLarge(Place, F),
@@ -93,6 +93,25 @@ impl<F> TableFault<F> {
         match self {
             TableFault::Check(check) => check.place(),
             TableFault::TooLarge(place, _) | TableFault::Cycle(place, _) => *place,
+        }
+    }
+}
+
+// Written out: of a failed check, the check alone, as in every layer that holds one.
+impl<F: fmt::Debug> fmt::Debug for TableFault<F> {
+    fn fmt<W: fmt::Write>(&self, f: &mut fmt::Formatter<W>) -> fmt::Result {
+        match self {
+            TableFault::Check(check) => fmt::Debug::fmt(check, f),
+            TableFault::TooLarge(place, why) => f
+                .debug_tuple("TooLarge")
+                .field(place)
+                .field(why)
+                .finish(),
+            TableFault::Cycle(place, why) => f
+                .debug_tuple("Cycle")
+                .field(place)
+                .field(why)
+                .finish(),
         }
     }
 }

@@ -152,4 +152,13 @@ mod tests {
         assert_eq!(rt; text.as_str(), "-5 7 -");
         Ok(())
     }
+
+    #[test]
+    fn debug_names_the_kind(rt: HostRuntime) -> Result<(), Fail> {
+        let five = <Pulses as Semiring>::read(5);
+        let below = <Charge as Semiring>::read(-5);
+        let text = format!(in rt.alloc(); "{five:?} {below:?}")?;
+        assert_eq!(rt; text.as_str(), "Pulses { number: 5 } Charge { number: -5 }");
+        Ok(())
+    }
 }

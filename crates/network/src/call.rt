@@ -37,7 +37,8 @@ impl<E: fmt::Display, F> fmt::Display for Answer<E, F> {
     fn fmt<W: fmt::Write>(&self, f: &mut fmt::Formatter<W>) -> fmt::Result {
         match &self.0 {
             Ok(None) => write!(f, "accepted"),
-            Ok(Some(entry)) => entry.fmt(f),
+            // By `write!`, as the others print: a width or a sign that is asked for changes no answer.
+            Ok(Some(entry)) => write!(f, "{entry}"),
             Err(fault) => fault.fmt(f),
         }
     }

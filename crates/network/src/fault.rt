@@ -7,7 +7,7 @@ use closure::{CheckFault, Place, TableFault};
 use std::fmt;
 
 // Why a call on a network was refused. A refused step on its tables is held whole.
-#[derive(Debug, Drop)]
+#[derive(Drop)]
 pub enum NetworkFault<F> {
     Check(CheckFault),
     Table(TableFault<F>),
@@ -48,6 +48,16 @@ impl<F> From<TableFault<F>> for NetworkFault<F> {
 
     fn from(step: TableFault<F>) -> NetworkFault<F> {
         NetworkFault::Table(step)
+    }
+}
+
+// Written out, as that of a table's fault.
+impl<F: fmt::Debug> fmt::Debug for NetworkFault<F> {
+    fn fmt<W: fmt::Write>(&self, f: &mut fmt::Formatter<W>) -> fmt::Result {
+        match self {
+            NetworkFault::Check(check) => fmt::Debug::fmt(check, f),
+            NetworkFault::Table(fault) => f.debug_tuple("Table").field(fault).finish(),
+        }
     }
 }
 

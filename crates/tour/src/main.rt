@@ -52,6 +52,7 @@ fn main(rt: HostRuntime) -> io::Result<()> {
 #[cfg(test)]
 mod tests {
     use super::*;
+    use network::Answer;
     use std::test::Fail;
 
     #[test]
@@ -104,6 +105,29 @@ mod tests {
         assert_eq!(rt; cells[1], 5);
         assert_eq!(rt; cells[5], 5);
         assert_eq!(rt; cells[12], 7);
+        Ok(())
+    }
+
+    #[test]
+    fn answers_take_no_width_and_no_sign(rt: HostRuntime) -> Result<(), Fail> {
+        let mut cells = [0; 12];
+        let mut network = Network::<Pulses>::wrap(&mut cells);
+        let accepted = Answer(network.perform(Call::Open(2)));
+        network.insert(0, 1, Pulses::new(5).unwrap())?;
+        let read = Answer(network.perform(Call::Edge(0, 1)));
+        let text = format!(in rt.alloc(); "{accepted:>12} {read:>12} {read:+}")?;
+        assert_eq!(rt; text.as_str(), "accepted 5 5");
+        Ok(())
+    }
+
+    #[test]
+    fn debug_of_a_failed_check_is_the_check(rt: HostRuntime) -> Result<(), Fail> {
+        let mut cells = [0; 12];
+        let mut network = Network::<Pulses>::wrap(&mut cells);
+        let opened = network.open(0);
+        let read = network.edge(0, 0);
+        let text = format!(in rt.alloc(); "{opened:?} {read:?}")?;
+        assert_eq!(rt; text.as_str(), "Err(NodeCount) Err(NodeCount)");
         Ok(())
     }
 }
