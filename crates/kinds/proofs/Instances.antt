@@ -1,5 +1,5 @@
 -- What the definitions and laws of amounts come to for each kind, spelled out. The numbers and limits are those of `impl Number` for u64 and for i64.
-use Rattle.std.specs.Prelude.{◌≡◌, ℕ, ◌+◌, ◌≤◌, min, ℤ, pos, ◌+ℤ◌, neg_ℤ, ◌≤ℤ◌, ◌<ℤ◌, Bool, true, false, ◌&&◌, cond, IsTrue, nat_lt, nat_le, int_le, int_lt, decimal, Some, None, Ok, Err, ◌==◌, refl}
+use Rattle.std.specs.Prelude.{◌≡◌, ◌≢◌, ℕ, ◌+◌, ◌<◌, ◌≤◌, min, ℤ, pos, ◌+ℤ◌, neg_ℤ, ◌≤ℤ◌, ◌<ℤ◌, Bool, true, false, ◌&&◌, cond, IsTrue, nat_lt, nat_le, int_le, int_lt, decimal, Some, None, Ok, Err, ◌==◌, refl}
 use Rattle.std.specs.Fmt.{signed_decimal}
 use Rattle.std.specs.Int.{int_min}
 use Rattle.std.specs.Ordering.{int_eq}
@@ -22,6 +22,8 @@ use Rattle.std.specs.declared.cmp.PartialOrd as partial
 use Rattle.kinds.specs.declared.number.Number as number
 use Rattle.kinds.specs.declared.amount.Amount as amount
 use Rattle.kinds.specs.declared.kind.Kind.TheVariants as kind
+use Rattle.kinds.specs.contracts.pulses.U64Number.TheImpl as of_u64
+use Rattle.kinds.specs.contracts.charge.I64Number.TheImpl as of_i64
 
 -- Pulses
 pub pulses_values : numbers.values pulses.naturals 0 ≡ amounts min ◌+◌ 0
@@ -112,11 +114,21 @@ module _ (o : ord.Ghosts ℕ) (e : eq.Ghosts ℕ) (p : partial.Ghosts ℕ) where
   abbrev n : number.Ghosts ℕ
   n = record { numbers = pulses.naturals; KIND = kind.Pulses; ZERO = 0; LIMIT = pulses_limit; EDGE_LIMIT = pulses_edge_limit; NONE = pulses_none }
 
+  -- they are what `impl Number for u64` says
+  pub pulses_numbers : n ≡ of_u64.ghosts
+  pulses_numbers = refl
+
   pub pulses_made : (m : ℕ) → (entries.made {n = n} {o = o} {e = e} {p = p} m).number ≡ min m pulses_none
   pulses_made m = pulses_capped m
 
   pub pulses_exact : Exact (entries.entries {n = n} {o = o} {e = e} {p = p})
   pulses_exact = exact n o e p pulses.laws pulses.limits
+
+  pub pulses_past_limit_not_held : (m : ℕ) → pulses_limit < m → (a : amount.Amount ℕ n o e p) → entries.value a ≢ of m
+  pulses_past_limit_not_held m past a is = grind (arith, nat_tests, ints)
+
+  pub pulses_up_to_limit_held : (m : ℕ) → m ≤ pulses_limit → entries.value (entries.made {n = n} {o = o} {e = e} {p = p} m) ≡ of m
+  pulses_up_to_limit_held m up_to = grind (arith, nat_tests, ints)
 
   pub pulses_held : (m : ℕ) → entries.held {n = n} {o = o} {e = e} {p = p} (of m) ≡ cond (nat_lt pulses_limit m) (Err kind.Pulses) (Ok (entries.made m))
   pulses_held m = grind (arith, nat_tests)
@@ -137,6 +149,10 @@ module _ (o : ord.Ghosts ℕ) (e : eq.Ghosts ℕ) (p : partial.Ghosts ℕ) where
 module _ (o : ord.Ghosts ℤ) (e : eq.Ghosts ℤ) (p : partial.Ghosts ℤ) where
   abbrev c : number.Ghosts ℤ
   c = record { numbers = charge.integers; KIND = kind.Charge; ZERO = pos 0; LIMIT = charge_limit; EDGE_LIMIT = charge_edge_limit; NONE = charge_none }
+
+  -- they are what `impl Number for i64` says
+  pub charge_numbers : c ≡ of_i64.ghosts
+  charge_numbers = refl
 
   pub charge_in_limit : (m : ℤ) → numbers.up_to charge_limit m ≡ between charge_limit m
   charge_in_limit m = charge_up_to charge_limit m (omega (arith, ints))

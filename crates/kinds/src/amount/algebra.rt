@@ -33,6 +33,7 @@ impl<N: Number> Semiring for Amount<N> {
     }
 
     // None has the largest number, so it needs no test of its own.
+    #[tactic(auto, using(crate::specs::Exact::min_made))]
     fn sum(a: Amount<N>, b: Amount<N>) -> Amount<N> {
         a.min(b)
     }
