@@ -7,7 +7,7 @@ ghost use Rattle.kinds.specs.declared.kind.Kind.{Kind};
 use crate::kind::Kind;
 
 // A sort of number, with the limits of the kind whose entries hold it.
-// `whole` and `try_add` are a line in each impl, since what they call belongs to each type.
+// `whole` and `try_add` stand in each impl, since what they call belongs to each type.
 pub trait Number: Copy + Ord {
     ghost numbers: { Numbers Self };
 
