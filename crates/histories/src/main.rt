@@ -53,4 +53,18 @@ mod tests {
         assert_eq!(rt; network.closure(0, 0)?.number(), Some(0));
         Ok(())
     }
+
+    #[test]
+    fn debug_of_a_refused_step_names_its_layer(rt: HostRuntime) -> Result<(), Fail> {
+        let mut cells = [0; 4];
+        let mut network = Network::<Charge>::wrap(&mut cells);
+        network.open(1)?;
+        let lap = network.insert(0, 0, Charge::new(-1).unwrap());
+        let text = format!(in rt.alloc(); "{lap:?}")?;
+        assert_eq!(rt;
+            text.as_str(),
+            "Err(Table(Cycle(Place { row: 0, column: 0 }, Charge)))"
+        );
+        Ok(())
+    }
 }
